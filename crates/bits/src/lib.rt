@@ -1,0 +1,1 @@
+// What is read off one number, and what is made of it.

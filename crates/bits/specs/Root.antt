@@ -17,7 +17,7 @@ wholeRoot n = rootDigits (suc (size n / 2)) 0 n
 
 -- In units of the format's smallest value the root of x is s, or s and less than one more. Half a unit stands for what is cut off:
 -- it lies on the same side of every value and every half-way point of the format, since s has far more digits than the format keeps.
--- That this is the correctly rounded root is a theorem (proofs/Root.antt), which no reader of this definition has to believe.
+-- That this is the correctly rounded root is a theorem (proofs/RootCorrect.antt), which no reader of this definition has to believe.
 unfoldable pub root : Format → Float → Float
 unfolding round wholeRoot
 root f nan = nan

@@ -1,0 +1,16 @@
+pub mod Signed
+pub mod Compare
+pub mod Keys
+pub mod Tests
+pub mod Pattern
+pub mod Narrowing
+pub mod NextUp
+pub mod Least
+pub mod WholeRoot
+pub mod RootNearest
+pub mod RootDigits
+pub mod RootCorrect
+pub mod RootSteps
+pub mod RootCode
+pub mod RootBits
+pub mod RootTable

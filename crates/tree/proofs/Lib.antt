@@ -1,2 +1,17 @@
+pub mod Step
+pub mod Pair
+pub mod Rank
+pub mod Perm
+pub mod Sort
+pub mod Stable
+pub mod Slots
+pub mod Axis
+pub mod Walk
+pub mod Ordered
+pub mod Shape
+pub mod Grow
+pub mod Cloud
+pub mod Descent
 pub mod Levels
 pub mod Table
+pub mod Outside

@@ -1,0 +1,3 @@
+pub mod Order
+pub mod Sifting
+pub mod Selection

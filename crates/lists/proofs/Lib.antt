@@ -1,0 +1,11 @@
+pub mod Stable
+pub mod KNearest
+pub mod Follow
+pub mod Built
+pub mod Cut
+pub mod Shift
+pub mod Offering
+pub mod Seen
+pub mod Walking
+pub mod Rule
+pub mod Determined

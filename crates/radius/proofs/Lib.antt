@@ -1,0 +1,12 @@
+pub mod Heap
+pub mod HeapSort
+pub mod Pairs
+pub mod Rising
+pub mod Found
+pub mod Rename
+pub mod Parting
+pub mod Ranks
+pub mod Turns
+pub mod Gathering
+pub mod Result
+pub mod Determined

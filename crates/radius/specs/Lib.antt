@@ -1,0 +1,5 @@
+pub mod Pairs
+pub mod Near
+pub mod Sorting
+pub mod Gather
+pub mod Entries

@@ -1,0 +1,8 @@
+pub mod Overwrite
+pub mod Pairs
+pub mod Entries
+pub mod Refusals
+pub mod Turns
+pub mod Demands
+pub mod Inside
+pub mod Determined

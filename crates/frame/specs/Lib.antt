@@ -1,0 +1,4 @@
+pub mod Moments
+pub mod Frame
+pub mod Cases
+pub mod Entries

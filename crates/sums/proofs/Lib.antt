@@ -1,0 +1,5 @@
+pub mod Runs
+pub mod Refusals
+pub mod Count
+pub mod Determined
+pub mod Table

@@ -1,0 +1,10 @@
+pub mod Stores
+pub mod Texts
+pub mod Inputs
+pub mod Trees
+pub mod Entries
+pub mod Reports
+pub mod Answers
+pub mod Determined
+pub mod Table
+pub mod Cut

@@ -1,0 +1,356 @@
+//! The proved library, by its C interface (include/ongdhuse.h).
+use crate::side::{Op, Scale, Side, Sums, Tree};
+
+extern "C" {
+    fn ongdhuse_build(
+        cloud: *const f32,
+        cloud_len: usize,
+        coords: *mut f32,
+        coords_len: usize,
+        indices: *mut u32,
+        indices_len: usize,
+        slots: *mut u32,
+    ) -> u32;
+    fn ongdhuse_is_tree_of(
+        cloud: *const f32,
+        cloud_len: usize,
+        coords: *const f32,
+        coords_len: usize,
+        indices: *const u32,
+        indices_len: usize,
+        yes: *mut u32,
+    ) -> u32;
+    fn ongdhuse_find_nearest_bounded(
+        coords: *const f32,
+        coords_len: usize,
+        indices: *const u32,
+        indices_len: usize,
+        x: f32,
+        y: f32,
+        z: f32,
+        bound_sq: f32,
+        seeded: u32,
+        seed_index: u32,
+        seed_distance_sq: f32,
+        found: *mut u32,
+        index: *mut u32,
+        distance_sq: *mut f32,
+    ) -> u32;
+    fn ongdhuse_find_k_nearest_into(
+        coords: *const f32,
+        coords_len: usize,
+        indices: *const u32,
+        indices_len: usize,
+        x: f32,
+        y: f32,
+        z: f32,
+        k: u32,
+        out_indices: *mut u32,
+        out_indices_len: usize,
+        out_distances: *mut f32,
+        out_distances_len: usize,
+        count: *mut u32,
+    ) -> u32;
+    fn ongdhuse_find_k_nearest(
+        coords: *const f32,
+        coords_len: usize,
+        indices: *const u32,
+        indices_len: usize,
+        x: f32,
+        y: f32,
+        z: f32,
+        k: u32,
+        out_indices: *mut u32,
+        out_indices_len: usize,
+        out_distances: *mut f32,
+        out_distances_len: usize,
+        count: *mut u32,
+    ) -> u32;
+    fn ongdhuse_find_radius_neighbors(
+        coords: *const f32,
+        coords_len: usize,
+        indices: *const u32,
+        indices_len: usize,
+        x: f32,
+        y: f32,
+        z: f32,
+        radius: f32,
+        out_indices: *mut u32,
+        out_indices_len: usize,
+        out_distances: *mut f32,
+        out_distances_len: usize,
+        count: *mut u32,
+    ) -> u32;
+    fn ongdhuse_max_distance_sq(limited: u32, limit: f32) -> f32;
+    fn ongdhuse_find_correspondences_seeded(
+        source: *const f32,
+        source_len: usize,
+        target: *const f32,
+        target_len: usize,
+        coords: *const f32,
+        coords_len: usize,
+        indices: *const u32,
+        indices_len: usize,
+        limited: u32,
+        limit: f32,
+        matches: *mut u32,
+        matches_len: usize,
+    ) -> u32;
+    fn ongdhuse_correspondence_pairs(
+        matches: *const u32,
+        matches_len: usize,
+        sources: *mut u32,
+        sources_len: usize,
+        targets: *mut u32,
+        targets_len: usize,
+        count: *mut u32,
+    ) -> u32;
+    fn ongdhuse_collect(
+        source: *const f32,
+        source_len: usize,
+        target: *const f32,
+        target_len: usize,
+        matches: *const u32,
+        matches_len: usize,
+        sums: *mut f64,
+        sums_len: usize,
+        count: *mut u32,
+    ) -> u32;
+    fn ongdhuse_mse(count: u32, sum_sq_error: f64) -> f32;
+    fn ongdhuse_cloud_scale(cloud: *const f32, cloud_len: usize, scale: *mut f32, scale_len: usize) -> u32;
+    fn ongdhuse_if_far_from_origin(
+        cloud: *const f32,
+        cloud_len: usize,
+        origin: *mut f64,
+        origin_len: usize,
+        is_far: *mut u32,
+    ) -> u32;
+    fn ongdhuse_point_to_local(
+        origin_x: f64,
+        origin_y: f64,
+        origin_z: f64,
+        x: f32,
+        y: f32,
+        z: f32,
+        local: *mut f32,
+        local_len: usize,
+    ) -> u32;
+}
+
+pub struct Ours;
+
+fn accepted(refusal: u32) {
+    assert_eq!(refusal, 0, "the proved library refused");
+}
+
+impl Side for Ours {
+    fn build(&self, cloud: &[f32]) -> Tree {
+        let n = cloud.len() / 3;
+        let (mut coords, mut indices, mut slots, mut yes) = (vec![0.0f32; 3 * n], vec![0u32; n], 0u32, 0u32);
+        unsafe {
+            accepted(ongdhuse_build(
+                cloud.as_ptr(),
+                cloud.len(),
+                coords.as_mut_ptr(),
+                coords.len(),
+                indices.as_mut_ptr(),
+                indices.len(),
+                &mut slots,
+            ));
+            coords.truncate(3 * slots as usize);
+            indices.truncate(slots as usize);
+            accepted(ongdhuse_is_tree_of(
+                cloud.as_ptr(),
+                cloud.len(),
+                coords.as_ptr(),
+                coords.len(),
+                indices.as_ptr(),
+                indices.len(),
+                &mut yes,
+            ));
+        }
+        assert_eq!(yes, 1, "the checking entry says no to a tree just built");
+        Tree { coords, indices }
+    }
+
+    fn bounded(&self, t: &Tree, q: [f32; 3], bound: f32, seed: Option<(u32, f32)>) -> Option<(u32, f32)> {
+        let (mut found, mut index, mut distance) = (0u32, 0u32, 0.0f32);
+        let (s, d) = seed.unwrap_or((0, 0.0));
+        unsafe {
+            accepted(ongdhuse_find_nearest_bounded(
+                t.coords.as_ptr(),
+                t.coords.len(),
+                t.indices.as_ptr(),
+                t.indices.len(),
+                q[0],
+                q[1],
+                q[2],
+                bound,
+                seed.is_some() as u32,
+                s,
+                d,
+                &mut found,
+                &mut index,
+                &mut distance,
+            ));
+        }
+        (found == 1).then_some((index, distance))
+    }
+
+    fn list(&self, t: &Tree, q: [f32; 3], op: Op) -> Vec<(u32, f32)> {
+        let m = t.indices.len();
+        let room = match op {
+            Op::Squares(k) | Op::Roots(k) => m.min(k as usize),
+            Op::Radius(_) => m,
+        };
+        let (mut indices, mut distances, mut count) = (vec![0u32; room], vec![0.0f32; room], 0u32);
+        let (c, i) = (&t.coords, &t.indices);
+        let (oi, od) = (indices.as_mut_ptr(), distances.as_mut_ptr());
+        let [x, y, z] = q;
+        unsafe {
+            accepted(match op {
+                Op::Squares(k) => ongdhuse_find_k_nearest_into(
+                    c.as_ptr(),
+                    c.len(),
+                    i.as_ptr(),
+                    m,
+                    x,
+                    y,
+                    z,
+                    k,
+                    oi,
+                    room,
+                    od,
+                    room,
+                    &mut count,
+                ),
+                Op::Roots(k) => ongdhuse_find_k_nearest(
+                    c.as_ptr(),
+                    c.len(),
+                    i.as_ptr(),
+                    m,
+                    x,
+                    y,
+                    z,
+                    k,
+                    oi,
+                    room,
+                    od,
+                    room,
+                    &mut count,
+                ),
+                Op::Radius(r) => ongdhuse_find_radius_neighbors(
+                    c.as_ptr(),
+                    c.len(),
+                    i.as_ptr(),
+                    m,
+                    x,
+                    y,
+                    z,
+                    r,
+                    oi,
+                    room,
+                    od,
+                    room,
+                    &mut count,
+                ),
+            });
+        }
+        indices.into_iter().zip(distances).take(count as usize).collect()
+    }
+
+    fn limit(&self, d: Option<f32>) -> f32 {
+        unsafe { ongdhuse_max_distance_sq(d.is_some() as u32, d.unwrap_or(0.0)) }
+    }
+
+    fn matched(&self, source: &[f32], target: &[f32], t: &Tree, limit: Option<f32>, matches: &mut [u32]) {
+        unsafe {
+            accepted(ongdhuse_find_correspondences_seeded(
+                source.as_ptr(),
+                source.len(),
+                target.as_ptr(),
+                target.len(),
+                t.coords.as_ptr(),
+                t.coords.len(),
+                t.indices.as_ptr(),
+                t.indices.len(),
+                limit.is_some() as u32,
+                limit.unwrap_or(0.0),
+                matches.as_mut_ptr(),
+                matches.len(),
+            ));
+        }
+    }
+
+    fn pairs(&self, matches: &[u32]) -> Vec<(u32, u32)> {
+        let n = matches.len();
+        let (mut sources, mut targets, mut count) = (vec![0u32; n], vec![0u32; n], 0u32);
+        unsafe {
+            accepted(ongdhuse_correspondence_pairs(
+                matches.as_ptr(),
+                n,
+                sources.as_mut_ptr(),
+                n,
+                targets.as_mut_ptr(),
+                n,
+                &mut count,
+            ));
+        }
+        sources.into_iter().zip(targets).take(count as usize).collect()
+    }
+
+    fn sums(&self, source: &[f32], target: &[f32], matches: &[u32]) -> Sums {
+        let (mut values, mut count) = ([0.0f64; 16], 0u32);
+        let mse = unsafe {
+            accepted(ongdhuse_collect(
+                source.as_ptr(),
+                source.len(),
+                target.as_ptr(),
+                target.len(),
+                matches.as_ptr(),
+                matches.len(),
+                values.as_mut_ptr(),
+                16,
+                &mut count,
+            ));
+            ongdhuse_mse(count, values[15])
+        };
+        Sums { count, values, mse }
+    }
+
+    fn scale(&self, cloud: &[f32]) -> Scale {
+        let (mut s, mut origin, mut is_far) = ([0.0f32; 4], [0.0f64; 3], 0u32);
+        unsafe {
+            accepted(ongdhuse_cloud_scale(cloud.as_ptr(), cloud.len(), s.as_mut_ptr(), 4));
+            accepted(ongdhuse_if_far_from_origin(
+                cloud.as_ptr(),
+                cloud.len(),
+                origin.as_mut_ptr(),
+                3,
+                &mut is_far,
+            ));
+        }
+        Scale {
+            centroid: [s[0], s[1], s[2]],
+            radius: s[3],
+            origin: (is_far == 1).then_some(origin),
+        }
+    }
+
+    fn local(&self, origin: [f64; 3], p: [f32; 3]) -> [f32; 3] {
+        let mut local = [0.0f32; 3];
+        unsafe {
+            accepted(ongdhuse_point_to_local(
+                origin[0],
+                origin[1],
+                origin[2],
+                p[0],
+                p[1],
+                p[2],
+                local.as_mut_ptr(),
+                3,
+            ));
+        }
+        local
+    }
+}

@@ -10,12 +10,13 @@ use lib.IntN.{pos}
 use lib.Dec.{T, leb, ltb, eqb, leb→le, le→leb, nleb→lt, ltb→lt, lt→ltb, nltb→le}
 use borrow.Author.Tests.{leb-false}
 use lib.Pow.{pow-pos, pow-mono}
-use lib.Ieee.{Float, nan, inf, fin, binary32, odd, ofFields, ofBits, toBits, fits, isNan, le, lt}
-use lib.Ieee.Bits.{ofBits-toBits, toBits-lt, nanBits-is, nanBits-above}
+use lib.Ieee.{Float, nan, inf, fin, binary32, odd, ofFields, ofBits, toBits, fits, le, lt}
+use lib.Ieee.Bits.{ofBits-toBits, toBits-lt}
 use lib.Ieee.Exact.{HasValue, odd-sign}
 use Rattle.bits.specs.Finite.{finite}
 use Rattle.bits.specs.Key.{turned, key}
 use Rattle.bits.proofs.Signed.{Leq}
+use Rattle.bits.proofs.Tests.{number-bits}
 use Rattle.bits.proofs.Compare.{number, number-is, plus, units-le, bottom, highest, le-refl, lt-not-le, lt-of-not-ge}
 
 -- ---- what number a pattern stands for, in units of 2 ^ -149
@@ -131,12 +132,6 @@ signed b c B C = rw (turned-is b, turned-is c) (go (leb 2147483648 b) (leb 21474
     go true true k k' l l' h = val-mono (c % 2147483648) (b % 2147483648) (down-le b c B C (k tt) (l tt) h)
 
 -- ---- no number has a key above or below those of the infinities
-number-bits : (x : Float) → T (fits binary32 x) → T (number x) → toBits binary32 x % 2147483648 ≤ 2139095040
-number-bits x f n =
-    let b = toBits binary32 x in
-    let e : ltb 2139095040 (b % 2147483648) ≡ isNan x = sym (nanBits-above binary32 b) ∙ nanBits-is binary32 b ∙ ap isNan (ofBits-toBits binary32 x f) in
-    nltb→le 2139095040 (b % 2147483648) (subst (λ (t : Bool). T (not t)) (sym e) (rw number-is at n))
-
 bits-top : (b : ℕ) → b % 2147483648 ≤ 2139095040 → 4286578688 ≤ turned b → b ≡ 2139095040
 bits-top b h = go (ltb b 2147483648) (ltb→lt b 2147483648) (nltb→le b 2147483648)
   where
@@ -169,11 +164,11 @@ from-bits x b f e = sym (ofBits-toBits binary32 x f) ∙ ap (λ (z : ℕ). ofBit
 
 key-top : (x : Float) → T (fits binary32 x) → T (number x) → key (inf false) ≤ key x → x ≡ inf false
 unfolding key toBits ofBits
-key-top x f n h = from-bits x 2139095040 f (bits-top (toBits binary32 x) (number-bits x f n) h)
+key-top x f n h = from-bits x 2139095040 f (bits-top (toBits binary32 x) (number-bits binary32 x f (rw number-is at n)) h)
 
 key-bottom : (x : Float) → T (fits binary32 x) → T (number x) → key x ≤ key (inf true) → x ≡ inf true
 unfolding key toBits ofBits
-key-bottom x f n h = from-bits x 4286578688 f (bits-bottom (toBits binary32 x) (toBits-lt binary32 x f) (number-bits x f n) h)
+key-bottom x f n h = from-bits x 4286578688 f (bits-bottom (toBits binary32 x) (toBits-lt binary32 x f) (number-bits binary32 x f (rw number-is at n)) h)
 
 turned-inj : (b c : ℕ) → b < 4294967296 → c < 4294967296 → turned b ≡ turned c → b ≡ c
 turned-inj b c B C = rw (turned-is b, turned-is c) (go (leb 2147483648 b) (leb 2147483648 c) (leb→le 2147483648 b) (leb→le 2147483648 c))

@@ -11,6 +11,9 @@ pub mod RootNearest
 pub mod RootDigits
 pub mod RootCorrect
 pub mod RootSteps
+pub mod RootGuess
 pub mod RootCode
 pub mod RootBits
 pub mod RootTable
+pub mod Determined
+pub mod Table

@@ -32,7 +32,7 @@ dropped p a (suc k) P hi lo =
     some (size a) p (suc k) P (size-le a (p + suc k) hi) (pow-lt-back (p - 1 + suc k) (size a) (lt-of-le-of-lt (lo (zero-lt-suc k)) (size-lt a)))
 
 -- ---- a value of q * 2 ^ k units
-bits-of-value : (f : Format) (x : Float) (s : Bool) (q k : ℕ) → q < 2 ^ prec f → (0 < k → hid f ≤ q) → HasValue x s (q * 2 ^ k) (2 ^ low f) → toBits f x ≡ cond s (top f) 0 + (k * hid f + q)
+pub bits-of-value : (f : Format) (x : Float) (s : Bool) (q k : ℕ) → q < 2 ^ prec f → (0 < k → hid f ≤ q) → HasValue x s (q * 2 ^ k) (2 ^ low f) → toBits f x ≡ cond s (top f) 0 + (k * hid f + q)
 unfolding toBits
 bits-of-value f nan s q k Q K v = absurd v
 bits-of-value f (inf t) s q k Q K v = absurd v

@@ -16,6 +16,7 @@ use lib.Ieee.Fits.{two, two-le-pos, down-pos, round-is}
 use lib.Ieee.Exact.{HasValue}
 use lib.Ieee.Nearest.{closest, closest-same}
 use Rattle.bits.specs.Root.{wholeRoot, root}
+use Rattle.bits.proofs.Pattern.{bits-of-value}
 use Rattle.bits.proofs.WholeRoot.{Whole, sq-lt, sq-lt-back, wholeRoot-correct}
 
 -- Of the numbers q * 2 ^ k whose q has p digits this one is nearest to the square root of n. In halves, the half-way points between it and
@@ -209,24 +210,9 @@ root-of-nearest f (fin false (suc m) e) n q zero v p K t = absurd (lt-irrefl 0 K
 root-of-nearest f (fin false (suc m) e) n q (suc j) v p K t =
     root-is f m e n (ap (λ (y : ℕ). y / down e) (v .1) ∙ mul-div-cancel n (down-pos e)) ∙ rounded f n (wholeRoot n) q j (wholeRoot-correct n) t
 
--- ---- the bits of a value, and of q * 2 ^ k units
-value-bits : (f : Format) (x : Float) (a : ℕ) → HasValue x false a (2 ^ low f) → toBits f x ≡ (size a - prec f) * hid f + a / 2 ^ (size a - prec f)
-unfolding toBits
-value-bits f nan a v = absurd v
-value-bits f (inf s) a v = absurd v
-value-bits f (fin true m e) a v = absurd (true≢false (v .0))
-value-bits f (fin false m e) a v =
-    let b : m * up e * 2 ^ low f / down e ≡ a = ap (λ (x : ℕ). x / down e) (v .1) ∙ mul-div-cancel a (down-pos e) in
-    ap (λ (x : ℕ). 0 + (size x - prec f) * hid f + x / 2 ^ (size x - prec f)) b
-    ∙ ap (λ (x : ℕ). x + a / 2 ^ (size a - prec f)) (zero-add ((size a - prec f) * hid f))
-
+-- ---- the bits of q * 2 ^ k units
 pub bits-of : (f : Format) (x : Float) (q k : ℕ) → HasValue x false (q * 2 ^ k) (2 ^ low f) → 2 ^ (prec f - 1) ≤ q → q < 2 ^ prec f → toBits f x ≡ k * hid f + q
-bits-of f x q k v lo hi =
-    let p = prec f in
-    let P : 0 < p = two-le-pos p (two f) in
-    let a = q * 2 ^ k in
-    let s : size a ≡ suc (p - 1 + k) = size-is (p - 1 + k) a (subst (λ (y : ℕ). y ≤ a) (sym (pow-add 2 (p - 1) k)) (mul-le-mul-right (2 ^ k) lo)) (subst (λ (y : ℕ). a < 2 ^ y) (all-told p k P) (shl-lt p k hi)) in
-    value-bits f x a v ∙ ap (λ (y : ℕ). y * hid f + a / 2 ^ y) (drops p k (size a) P s) ∙ ap (λ (y : ℕ). k * hid f + y) (mul-div-cancel q (pow-pos k))
+bits-of f x q k v lo hi = bits-of-value f x false q k hi (λ _. lo) v ∙ zero-add (k * hid f + q)
 
 -- ---- at most one number is nearest
 places : (p k l : ℕ) → 0 < p → p - 1 + l < p + k → l ≤ k

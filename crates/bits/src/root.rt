@@ -1,6 +1,7 @@
-// Square roots, correctly rounded, by whole numbers: the digits of the root one by one, with a remainder that fits 64 bits.
+// Square roots, correctly rounded, by whole numbers and their squares: the digits of the root, with a remainder that fits 64 bits.
 ghost use mathlib.Core.Path.{_≡_};
-ghost use mathlib.Core.Bool.{false};
+ghost use mathlib.Core.Bool.{false, _&&_};
+ghost use lib.Dec.{leb};
 ghost use Prim.Native.Nat.{suc, _+_, _*_, _^_, _≤_, _<_};
 ghost use lib.Ieee.{Float, Format, binary32, binary64, prec, emax, low, toBits, ofBits};
 ghost use lib.Ieee.Exact.{HasValue};
@@ -49,6 +50,70 @@ fn digits(ahead: u64, count: u64) -> Partial
     d
 }
 
+// A step towards 2^46 over the root of a, by Newton's rule, from y. `three` is 3 * 2^30 and 2^32, so that nothing falls below zero, or a little more,
+// which makes up for steps that always fall short.
+fn nearer(a: u64, y: u64, three: u64) -> u64
+    requires { ⌜ (a < 2 ^ 32) × (y < 2 ^ 32) × (2 ^ 32 ≤ three) × (three < 2 ^ 33) ⌝ }
+    ensures { λ r. ⌜ r < 2 ^ 32 ⌝ }
+{
+    let square = ((y * y) >> 30) % 0x1_0000_0000;
+    let factor = (three - ((a * square) >> 32)) % 0x1_0000_0000;
+    ((y * factor) >> 31) % 0x1_0000_0000
+}
+
+// In all likelihood the first 24 digits of the root, or one more than that. Nothing rests on it.
+fn guess(ahead: u64) -> u64
+    ensures { λ r. ⌜ r < 2 ^ 32 ⌝ }
+{
+    let a = ahead >> 32;
+    let y0 = 0x8795_8106 - ((a * 19) >> 6);
+    let y1 = nearer(a, y0, 0x1_c0c8_f870);
+    let y2 = nearer(a, y1, 0x1_c000_ed9f);
+    let y3 = nearer(a, y2, 0x1_c000_0000);
+    (((a * y3) >> 37) + 1) >> 1
+}
+
+// One less, where the square is too great.
+fn lowered(n: u64, root: u64) -> u64
+    requires { ⌜ root < 2 ^ 32 ⌝ }
+    ensures { λ r. ⌜ r ≤ root ⌝ }
+{
+    if n < root * root { root - 1 } else { root }
+}
+
+// Whether n lies from the square of this number up to the next one's.
+fn is_root(n: u64, root: u64) -> bool
+    requires { ⌜ root < 2 ^ 32 ⌝ }
+    ensures { λ r. ⌜ r ≡ leb (root * root) n && leb n (root * root + 2 * root) ⌝ }
+{
+    let square = root * root;
+    if square <= n {
+        n <= square + 2 * root
+    } else {
+        false
+    }
+}
+
+// The same as `digits`. Of 24 digits the root is guessed, and taken if its square and the next one's tell that it is right: where roots
+// are many, the digits one by one would take most of the time.
+fn first_digits(ahead: u64, count: u64) -> Partial
+    requires { ⌜ count ≤ 60 ⌝ }
+    ensures { λ r. ⌜ ((r .root * r .root + r .rest) * 2 ^ 64 + r .ahead ≡ ahead * (2 ^ count * 2 ^ count)) × (r .rest ≤ 2 * r .root) × (r .root < 2 ^ count) ⌝ }
+{
+    if count == 24 {
+        let n = ahead >> 16;
+        let root = lowered(n, guess(ahead));
+        if is_root(n, root) {
+            return Partial {
+                root: root,
+                rest: n - root * root,
+                ahead: ahead << 48,
+            };
+        }
+    }
+    digits(ahead, count)
+}
+
 // The place of the highest digit.
 fn highest(m: u64) -> u64
     requires { ⌜ 0 < m ⌝ }
@@ -72,7 +137,7 @@ fn root_bits(n: Scaled, p: u64) -> u64
     let m = n.digits;
     let top = highest(m);
     let excess = n.exponent + 2 + top - 2 * p;
-    let d = digits(m << (62 - top + excess % 2), p);
+    let d = first_digits(m << (62 - top + excess % 2), p);
     let bits = ((excess / 2) << (p - 1)) + d.root;
     if d.root < d.rest { bits + 1 } else { bits }
 }

@@ -8,7 +8,7 @@ use Rattle.bits.proofs.root.root_bits.Statement.{statement}
 use Rattle.bits.proofs.root.root_bits.Tie as tie
 
 -- what is known once the digits are found
-found : (c : tie.After-digits) → Found (c .before .before .before .args .p) (c .before .before .before .args .n .digits) (c .before .before .before .args .n .exponent) (c .before .before .highest .result) (c .digits .result .root) (c .digits .result .rest) (c .digits .result .ahead)
+found : (c : tie.After-first-digits) → Found (c .before .before .before .args .p) (c .before .before .before .args .n .digits) (c .before .before .before .args .n .exponent) (c .before .before .highest .result) (c .first-digits .result .root) (c .first-digits .result .rest) (c .first-digits .result .ahead)
 found c =
     let pre = c .before .before .before .pre in
     record {
@@ -18,9 +18,9 @@ found c =
       bound = pre .4;
       lo = c .before .before .highest .ensures .0;
       hi = c .before .before .highest .ensures .1;
-      digits = c .digits .ensures .0;
-      small = c .digits .ensures .1;
-      fitting = c .digits .ensures .2;
+      digits = c .first-digits .ensures .0;
+      small = c .first-digits .ensures .1;
+      fitting = c .first-digits .ensures .2;
       ahead = omega arith;
     }
 
@@ -42,17 +42,17 @@ mul-excess c = search needs
 sub-excess : tie.Need-sub-excess
 sub-excess c = search needs
 
-sub-digits : tie.Need-sub-digits
-sub-digits c = let h = top-within c in omega arith
+sub-first-digits : tie.Need-sub-first-digits
+sub-first-digits c = let h = top-within c in omega arith
 
-add-digits : tie.Need-add-digits
-add-digits c = search needs
+add-first-digits : tie.Need-add-first-digits
+add-first-digits c = search needs
 
-shl-digits : tie.Need-shl-digits
-shl-digits c = search needs
+shl-first-digits : tie.Need-shl-first-digits
+shl-first-digits c = search needs
 
-digits-requires : tie.Need-digits-requires
-digits-requires c κs = search needs
+first-digits-requires : tie.Need-first-digits-requires
+first-digits-requires c κs = search needs
 
 sub-bits : tie.Need-sub-bits
 sub-bits c = let h = top-within (c .before) in omega arith
@@ -81,10 +81,10 @@ root-bits-spec =
     add-excess-2
     mul-excess
     sub-excess
-    sub-digits
-    add-digits
-    shl-digits
-    digits-requires
+    sub-first-digits
+    add-first-digits
+    shl-first-digits
+    first-digits-requires
     sub-bits
     shl-bits
     add-bits

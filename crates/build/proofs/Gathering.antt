@@ -6,10 +6,9 @@ use mathlib.Core.List.{List·Memᴰ, List·Memᴰ·head, List·Memᴰ·tail, Lis
 use Prim.Native.Nat.{ℕ, _+_, _-_, _*_, _≤_, _<_}
 use native.Mathlib.Numerals.{add-one}
 use native.Mathlib.Omega.{arith}
-use lib.ListN.{length, getD, take, drop, set, length-append}
+use lib.ListN.{length, take, drop, set, length-append}
 use lib.Seq.{take-suc-set, drop-set-lt, drop-drop}
-use lib.Ieee.{Float, nan}
-use Rattle.bits.specs.Finite.{finite}
+use lib.Ieee.{Float}
 use Rattle.tree.specs.Slots.{Slot, slot, pointAt, indicesOf}
 use Rattle.tree.specs.Cloud.{finitePoint, indexed}
 use Rattle.tree.specs.Refuse.{count, mostPoints}
@@ -19,20 +18,6 @@ use Rattle.select.specs.Order.{slotsOf, Inside}
 use Rattle.build.specs.Gather.{Kept, Gathered}
 
 -- ---- one point
-
-module _ (cloud : List Float) (i : ℕ) where
-  pub all-finite : (r : Bool) → finite (getD cloud (3 * i) nan) ≡ true → finite (getD cloud (3 * i + 1) nan) ≡ true
-      → r ≡ finite (getD cloud (3 * i + 2) nan) → r ≡ finitePoint (pointAt cloud i)
-  unfolding finitePoint
-  all-finite r e f g = rw (e, f) g
-
-  pub not-second : finite (getD cloud (3 * i) nan) ≡ true → finite (getD cloud (3 * i + 1) nan) ≡ false → false ≡ finitePoint (pointAt cloud i)
-  unfolding finitePoint
-  not-second e f = rw (e, f)
-
-  pub not-first : finite (getD cloud (3 * i) nan) ≡ false → false ≡ finitePoint (pointAt cloud i)
-  unfolding finitePoint
-  not-first e = rw e
 
 module _ (cloud : List Float) (i m : ℕ) (l : List ℕ) where
   pub kept-yes : finitePoint (pointAt cloud i) ≡ true → Kept cloud i m l (m + 1) (set l m i)

@@ -6,3 +6,4 @@ pub mod Descending
 pub mod Verdict
 pub mod Determined
 pub mod Example
+pub mod Table

@@ -17,16 +17,7 @@ pub fn is_indexed(cloud: &[f32], i: usize) -> bool
     requires { ⌜ 3 * i + 2 < length (now cloud) ⌝ }
     ensures { λ r. ⌜ r ≡ finitePoint (pointAt (now (cloud .entry)) i) ⌝ }
 {
-    let at = 3 * i;
-    if bits::is_finite(cloud[at]) {
-        if bits::is_finite(cloud[at + 1]) {
-            bits::is_finite(cloud[at + 2])
-        } else {
-            false
-        }
-    } else {
-        false
-    }
+    tree::is_finite_point(tree::point_at(cloud, i))
 }
 
 // One, if point i is indexed.

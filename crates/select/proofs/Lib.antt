@@ -1,3 +1,4 @@
 pub mod Order
 pub mod Sifting
 pub mod Selection
+pub mod Table

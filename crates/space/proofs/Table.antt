@@ -7,7 +7,7 @@ use lib.Ieee.{Float, nan, inf, fin, add, sub, mul, le}
 use Rattle.bits.specs.Constants.{nought, infinite}
 use Rattle.space.specs.declared.Point3f.{Point3f}
 use Rattle.space.specs.Distance.{square, on, distanceSquared, apart, leftIsNear}
-use Rattle.space.specs.Exact.{tame, exact}
+use Rattle.space.specs.Exact.{tame, Tame, exact}
 
 abbrev at : Float → Float → Float → Point3f
 at x y z = record { x = x; y = y; z = z }
@@ -89,3 +89,16 @@ ends = (refl, refl, refl, refl, refl, refl, refl)
 -- the exact distance, in units of 2 ^ -80: 1 + 4 + 9; 0.25; and from -2 ^ 40 to 2 ^ 40 on each axis
 exactly : (exact origin (at one two three) ≡ 14 * 2 ^ 80) × (exact (at half nought nought) (at one nought nought) ≡ 2 ^ 78) × (exact (at (fin true 1 (pos 40)) (fin true 1 (pos 40)) (fin true 1 (pos 40))) (at (fin false 1 (pos 40)) (fin false 1 (pos 40)) (fin false 1 (pos 40))) ≡ 3 * 2 ^ 162)
 exactly = (refl, refl, refl)
+
+-- where the first number is the lesser
+exactly-turned : (exact (at three three three) (at one two three) ≡ 5 * 2 ^ 80) × (exact (at one two three) (at three three three) ≡ 5 * 2 ^ 80)
+exactly-turned = (refl, refl)
+
+-- every coordinate has to lie in the range
+each-tame : (Tame (at nan nought nought) → ⊥) × (Tame (at nought nan nought) → ⊥) × (Tame (at nought nought nan) → ⊥)
+each-tame = (λ t. t .x, λ t. t .y, λ t. t .z)
+
+-- z is taken from z
+z-alone : distanceSquared (at nought nought three) (at nought nought one) ≡ fin false 1 (pos 2)
+unfolding distanceSquared add sub mul
+z-alone = refl

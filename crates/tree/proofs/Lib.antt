@@ -15,3 +15,4 @@ pub mod Descent
 pub mod Levels
 pub mod Table
 pub mod Outside
+pub mod Overwrite

@@ -1,5 +1,5 @@
 -- A table over the definitions: the smallest inputs at which a wrong reading of document 01 gives another answer. Every row is by computation.
-use mathlib.Core.Path.{_≡_, refl}
+use mathlib.Core.Path.{_≡_, refl, ap, ap₂}
 use mathlib.Core.Bool.{Bool, true, false}
 use mathlib.Core.List.{List, [], _∷_, _++_}
 use Prim.Native.Nat.{ℕ}
@@ -11,13 +11,13 @@ use Rattle.bits.specs.Key.{key}
 use Rattle.bits.specs.Finite.{finite}
 use Rattle.space.specs.declared.Point3f.{Point3f}
 use Rattle.space.specs.Distance.{apart, leftIsNear}
-use Rattle.tree.specs.Refuse.{Outcome, refused, gives, refuse, left, ragged, uneven, mismatched, tooMany, short, hasNone, anyEntryOutside, anyIndexOutside, overwrite}
+use Rattle.tree.specs.Refuse.{Outcome, refused, gives, refuse, returned, left, count, ragged, uneven, mismatched, tooMany, short, hasNone, anyEntryOutside, anyIndexOutside, overwrite, onCloud, onTree}
 use Rattle.tree.specs.Slots.{Slot, slot, rank, slots, numbersOf, indicesOf}
 use Rattle.tree.specs.Part.{Part, empty, split, laid, partOf, lent}
 use Rattle.tree.specs.Sort.{sort, insert}
 use Rattle.tree.specs.Grow.{grow}
 use Rattle.tree.specs.Cloud.{points, finitePoint, finiteFrom, indexed, treeOf}
-use Rattle.tree.specs.Walk.{order, walk}
+use Rattle.tree.specs.Walk.{order, each, walk}
 use Rattle.tree.specs.Levels.{levels, height}
 
 abbrev zero0 : Float
@@ -112,6 +112,11 @@ ties-build : indicesOf (laid (treeOf cloud5)) ≡ 2 ∷ 0 ∷ 1 ∷ 3 ∷ 4 ∷ 
 unfolding indicesOf laid treeOf grow indexed finiteFrom finitePoint points finite sort insert rank key toBits size
 ties-build = refl
 
+-- a coordinate decides before any index: 0 with the highest index, 2 ^ -149 with the lowest
+coordinate-first : ltb (rank 0 (slot (flat zero0 zero0) 1048575)) (rank 0 (slot (flat (fin false 1 (negsuc 148)) zero0) 0)) ≡ true
+unfolding rank key toBits size
+coordinate-first = refl
+
 -- "-0 before +0"
 zeros-build : indicesOf (laid (treeOf (zero0 ∷ zero0 ∷ zero0 ∷ minus0 ∷ zero0 ∷ zero0 ∷ []))) ≡ 1 ∷ 0 ∷ []
 unfolding indicesOf laid treeOf grow indexed finiteFrom finitePoint points finite sort insert rank key toBits size
@@ -155,6 +160,17 @@ no-side : indicesOf (order (flat nan one1) 0 three) ≡ 7 ∷ 9 ∷ 8 ∷ []
 unfolding indicesOf order apart leftIsNear sub add neg sum round le lt eq
 no-side = refl
 
+-- one level deeper the next axis decides: the query lies on the left of the root, and beyond either part's root in x, but not in y
+abbrev cross : Part
+cross =
+    split (slot (flat five5 zero0) 1)
+    (split (slot (flat zero0 two2) 2) (split (slot (flat one1 one1) 3) empty empty) (split (slot (flat one1 three3) 4) empty empty))
+    (split (slot (flat zero0 two2) 5) (split (slot (flat one1 one1) 6) empty empty) (split (slot (flat one1 three3) 7) empty empty))
+
+next-axis : indicesOf (order (flat one1 one1) 0 cross) ≡ 1 ∷ 2 ∷ 3 ∷ 4 ∷ 5 ∷ 6 ∷ 7 ∷ []
+unfolding indicesOf order apart leftIsNear sub add neg sum round le lt eq
+next-axis = refl
+
 -- ---- the pruned walk, by a search that notes the indices it has seen
 
 abbrev noting : Slot → List ℕ → List ℕ
@@ -180,6 +196,19 @@ judged-late : walk noting few (flat one1 zero0) 0 three [] ≡ 7 ∷ 8 ∷ []
 unfolding walk apart leftIsNear sub add neg mul sum round le lt eq
 judged-late = refl
 
+-- the walk takes the same turns, on either side
+every : Float → List ℕ → Bool
+every plane seen = true
+
+next-axis-walked : walk noting every (flat one1 one1) 0 cross [] ≡ 1 ∷ 2 ∷ 3 ∷ 4 ∷ 5 ∷ 6 ∷ 7 ∷ []
+unfolding walk every apart leftIsNear sub add neg mul sum round le lt eq
+next-axis-walked = refl
+
+-- every slot is looked at, first to last
+looked-at : each noting (laid three) [] ≡ 7 ∷ 8 ∷ 9 ∷ []
+unfolding each laid
+looked-at = refl
+
 -- ---- levels: "1 for m = 1, 3 for 4, 21 for 1,048,576"
 
 levels-1 : levels 1 ≡ 1
@@ -198,12 +227,21 @@ k-levels : height (treeOf cloudK) ≡ 3
 unfolding height treeOf grow indexed finiteFrom finitePoint points finite sort insert rank key toBits size
 k-levels = refl
 
+-- the deeper part counts, on whichever side it is
+deeper-left : height (split (slot (flat one1 zero0) 7) three empty) ≡ 3
+unfolding height
+deeper-left = refl
+
 -- ---- refusals
 
 -- "no multiple of 3", "not 3 times its index length", "not one entry per source point"
 lengths : (ragged cloudK ≡ false) × (ragged (zero0 ∷ cloudK) ≡ true) × (uneven (zero0 ∷ zero0 ∷ zero0 ∷ []) (9 ∷ []) ≡ false)
     × (uneven (zero0 ∷ zero0 ∷ zero0 ∷ zero0 ∷ []) (9 ∷ []) ≡ true) × (mismatched cloudK (0 ∷ 0 ∷ 0 ∷ 0 ∷ []) ≡ false) × (mismatched cloudK (0 ∷ []) ≡ true)
 lengths = (refl, refl, refl, refl, refl, refl)
+
+-- two numbers over, and three; an entry too many; one point
+lengths-over : (ragged (zero0 ∷ zero0 ∷ cloudK) ≡ true) × (ragged (zero0 ∷ zero0 ∷ zero0 ∷ cloudK) ≡ false) × (mismatched [] (0 ∷ []) ≡ true) × (hasNone (zero0 ∷ zero0 ∷ zero0 ∷ []) ≡ false)
+lengths-over = (refl, refl, refl, refl)
 
 -- "over 1,048,576", "too short", "empty"
 bounds : (tooMany 1048576 ≡ false) × (tooMany 1048577 ≡ true) × (short cloudK 12 ≡ false) × (short cloudK 13 ≡ true) × (hasNone cloudK ≡ false) × (hasNone [] ≡ true)
@@ -223,3 +261,26 @@ outcomes : (tried true true ≡ refused 1) × (tried false true ≡ refused 2) �
     × (left (λ new. overwrite new (7 ∷ 8 ∷ 9 ∷ [])) (7 ∷ 8 ∷ 9 ∷ []) (tried true true) ≡ 7 ∷ 8 ∷ 9 ∷ [])
     × (left (λ new. overwrite new (7 ∷ 8 ∷ 9 ∷ [])) (7 ∷ 8 ∷ 9 ∷ []) (tried false false) ≡ 5 ∷ 6 ∷ 9 ∷ [])
 outcomes = (refl, refl, refl, refl, refl)
+
+told : (returned length (tried true false) ≡ refused 1) × (returned length (tried false false) ≡ gives 2)
+told = (refl, refl)
+
+-- "Tested in the order 1, 2, ..": a list long enough for 2 is too long for a row, so that these are told of every list
+module _ (cloud coords : List Float) (indices : List ℕ) (next : Outcome ℕ) where
+  cloud-one : ragged cloud ≡ true → onCloud cloud next ≡ refused 1
+  cloud-one h = ap (λ b. refuse 1 b (refuse 2 (tooMany (count cloud)) next)) h
+
+  cloud-two : ragged cloud ≡ false → tooMany (count cloud) ≡ true → onCloud cloud next ≡ refused 2
+  cloud-two h k = ap₂ (λ b c. refuse 1 b (refuse 2 c next)) h k
+
+  cloud-neither : ragged cloud ≡ false → tooMany (count cloud) ≡ false → onCloud cloud next ≡ next
+  cloud-neither h k = ap₂ (λ b c. refuse 1 b (refuse 2 c next)) h k
+
+  tree-one : uneven coords indices ≡ true → onTree coords indices next ≡ refused 1
+  tree-one h = ap (λ b. refuse 1 b (refuse 2 (tooMany (length indices)) next)) h
+
+  tree-two : uneven coords indices ≡ false → tooMany (length indices) ≡ true → onTree coords indices next ≡ refused 2
+  tree-two h k = ap₂ (λ b c. refuse 1 b (refuse 2 c next)) h k
+
+  tree-neither : uneven coords indices ≡ false → tooMany (length indices) ≡ false → onTree coords indices next ≡ next
+  tree-neither h k = ap₂ (λ b c. refuse 1 b (refuse 2 c next)) h k

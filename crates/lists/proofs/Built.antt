@@ -1,5 +1,5 @@
 -- On the slots of a cloud's tree nothing is lost by pruning: k nearest is the first k of all below infinity, and radius all within. Assumes nothing.
-use mathlib.Core.Path.{_≡_, refl, sym, ap, _∙_}
+use mathlib.Core.Path.{_≡_, sym, ap, _∙_}
 use mathlib.Core.Bool.{Bool, true, false, cond}
 use mathlib.Core.List.{List, [], _∷_, _++_, map, append-assoc, append-nil}
 use Prim.Native.Nat.{ℕ, _^_, _<_}

@@ -1,11 +1,11 @@
 -- An entry's contract fixes the answer and both lent lists: any two outcomes that it allows are the same. Assumes nothing.
-use mathlib.Core.Path.{_≡_, refl, sym, ap, _∙_}
+use mathlib.Core.Path.{_≡_, sym, ap, _∙_}
 use mathlib.Core.List.{List}
 use Prim.Native.Nat.{ℕ}
 use native.Mathlib.Omega.{arith}
 use lib.Ieee.{Float}
 use Rattle.space.specs.declared.Point3f.{Point3f}
-use Rattle.tree.specs.Refuse.{Outcome, refused, gives}
+use Rattle.tree.specs.Refuse.{Outcome}
 use Rattle.lists.specs.Entry.{Entry}
 use Rattle.lists.specs.Cases.{outcomeOf}
 use Rattle.lists.specs.Entries.{Written, NearestWritten}

@@ -2,7 +2,6 @@
 -- the two walks go the same way. Assumes nothing.
 use mathlib.Core.Path.{_≡_, refl, sym, ap, ap₂, _∙_}
 use mathlib.Core.Bool.{Bool, true, false, cond}
-use mathlib.Core.List.{List, [], _∷_, _++_, map}
 use Prim.Native.Nat.{ℕ}
 use lib.Ieee.{Float}
 use Rattle.space.specs.declared.Point3f.{Point3f}
@@ -11,7 +10,7 @@ use Rattle.tree.specs.Slots.{Slot}
 use Rattle.tree.specs.Part.{Part, empty, split}
 use Rattle.tree.specs.Grow.{nextAxis}
 use Rattle.tree.specs.Walk.{walk}
-use Rattle.tree.proofs.Walk.{goesLeft, plane, entered, nearPart, farPart, walk-step}
+use Rattle.tree.proofs.Walk.{goesLeft, plane, entered}
 
 -- every slot of a part changed
 unfoldable pub changed : (Slot → Slot) → Part → Part

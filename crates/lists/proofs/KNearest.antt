@@ -1,29 +1,31 @@
 -- k nearest looks at every slot: taken one by one, the entries held are always the first k of the stable sort of those below infinity. Assumes nothing.
-use mathlib.Core.Path.{_≡_, refl, sym, ap, ap₂, _∙_, subst}
-use mathlib.Core.Bool.{Bool, true, false, not, cond}
-use mathlib.Core.Logic.{⊎-elim, _⊎_, inl, inr, _↔_}
+use mathlib.Core.Path.{_≡_, refl, sym, ap, _∙_, subst}
+use mathlib.Core.Bool.{Bool, true, false, cond}
+use mathlib.Core.Logic.{⊎-elim, _↔_}
 use mathlib.Core.List.{List, [], _∷_, _++_, map, append-assoc, append-nil}
-use mathlib.Core.List.{List·Memᴰ, List·Memᴰ·head, List·Memᴰ·tail, List·Memᴰ·append-cases, List·Memᴰ·cases-cons, List·Memᴰ·not-nil}
+use mathlib.Core.List.{List·Memᴰ, List·Memᴰ·head, List·Memᴰ·tail, List·Memᴰ·append-cases, List·Memᴰ·cases-cons, List·Memᴰ·not-nil, Memᴰ·append-left}
 use Prim.Native.Nat.{ℕ, zero, suc, _≤_, _<_}
 use native.Mathlib.Nat.{le-of-suc-le-suc, not-suc-le-zero, le-trans as ℕ-le-trans}
 use native.Mathlib.Omega.{arith}
-use lib.Dec.{T, ltb, not-T}
-use lib.ListN.{length, take, getD}
-use lib.Ieee.{Float, inf, binary32, fits, lt, le}
+use lib.Dec.{T, ltb}
+use lib.ListN.{length, take, drop, getD, take-append-drop}
+use lib.Seq.{length-take-le}
+use lib.Ieee.{binary32, fits, lt}
+use lib.Ieee.Bits.{is-true}
 use borrow.Author.Tests.{lt-ltb, le-ltb, ltb-true, ltb-false}
 use Rattle.bits.specs.Constants.{infinite}
 use Rattle.bits.specs.Key.{key}
-use Rattle.bits.proofs.Compare.{number, plus, highest, lt-number-l, lt-le-trans, le-of-not-lt}
-use Rattle.bits.proofs.Keys.{key-lt, key-le-iff}
+use Rattle.bits.proofs.Compare.{number, plus, highest, lt-number-l, lt-le-trans}
+use Rattle.bits.proofs.Keys.{key-lt}
 use Rattle.space.specs.declared.Point3f.{Point3f}
 use Rattle.tree.specs.Slots.{Slot}
 use Rattle.tree.specs.Sort.{sort}
 use Rattle.tree.specs.Walk.{each}
 use Rattle.tree.proofs.Perm.{perm-mem}
-use Rattle.tree.proofs.Sort.{Sorted, sort-perm, sort-sorted}
+use Rattle.tree.proofs.Sort.{Sorted, side, sort-perm, sort-sorted}
+use Rattle.tree.proofs.Stable.{insertAfter, after-here, after-past, sort-snoc, take-after, held-idle}
 use Rattle.lists.specs.Entry.{Entry, entry, far, keep}
 use Rattle.lists.specs.KNearest.{place, kth, offer, belowInfinity}
-use Rattle.lists.proofs.Stable.{after, after-here, after-past, sort-snoc, take-after, take-past}
 
 -- a distance that compares as its number does: an f32 with its sign clear, and no NaN
 pub record Good (e : Entry) : Type 0 where
@@ -33,10 +35,6 @@ pub record Good (e : Entry) : Type 0 where
 
 abbrev pub AllGood : List Entry → Type 0
 AllGood es = (e : Entry) → List·Memᴰ e es → Good e
-
-pub true-T : (b : Bool) → T b → b ≡ true
-true-T true h = refl
-true-T false h = absurd h
 
 pub T-true : (b : Bool) → b ≡ true → T b
 T-true b e = subst T (sym e) tt
@@ -57,11 +55,20 @@ lt-far e f g h = go (lt (e .distance) (f .distance)) refl
         pick false r = refl
 
 -- among good entries a place by distance is one by number
-pub place-after : (e : Entry) (es : List Entry) → Good e → AllGood es → place e es ≡ after far e es
-unfolding place after
+pub place-after : (e : Entry) (es : List Entry) → Good e → AllGood es → place e es ≡ insertAfter far e es
+unfolding place insertAfter
 place-after e [] g h = refl
 place-after e (f ∷ es) g h =
-    ap₂ (λ (b : Bool) (r : List Entry). cond b (e ∷ f ∷ es) (f ∷ r)) (lt-far e f g (h f (List·Memᴰ·head refl))) (place-after e es g (λ x m. h x (List·Memᴰ·tail m)))
+    ⊎-elim
+    (λ (p : far f ≤ far e).
+    by (le-ltb (far e) (far f) p)
+    ∙ ap (λ (r : List Entry). f ∷ r) (place-after e es g (λ x m. h x (List·Memᴰ·tail m)))
+    ∙ sym (after-past far e f es p))
+    (λ (p : far e < far f). by (lt-ltb (far e) (far f) p) ∙ sym (after-here far e f es p))
+    (side far f e)
+  where
+    by : {b : Bool} → ltb (far e) (far f) ≡ b → place e (f ∷ es) ≡ cond b (e ∷ f ∷ es) (f ∷ place e es)
+    by r = ap (λ (b : Bool). cond b (e ∷ f ∷ es) (f ∷ place e es)) (lt-far e f g (h f (List·Memᴰ·head refl)) ∙ r)
 
 pub getD-mem : {A : Type 0} (l : List A) (i : ℕ) (d : A) → i < length l → List·Memᴰ (getD l i d) l
 getD-mem [] i d h = absurd (not-suc-le-zero h)
@@ -75,6 +82,19 @@ sorted-at code (x ∷ l) s zero zero d h k = omega arith
 sorted-at code (x ∷ l) s zero (suc j) d h k = s .0 (getD l j d) (getD-mem l j d (le-of-suc-le-suc k))
 sorted-at code (x ∷ l) s (suc i) zero d h k = absurd (not-suc-le-zero h)
 sorted-at code (x ∷ l) s (suc i) (suc j) d h k = sorted-at code l (s .1) i j d (le-of-suc-le-suc h) (le-of-suc-le-suc k)
+
+-- of the first, the last has the highest number
+sorted-under : {A : Type 0} (code : A → ℕ) (l : List A) → Sorted code l → (j : ℕ) (d : A) → j < length l → (t : A) → List·Memᴰ t (take (suc j) l) → code t ≤ code (getD l j d)
+unfolding Sorted
+sorted-under code [] s j d h t m = absurd (not-suc-le-zero h)
+sorted-under code (x ∷ l) s zero d h t m = ⊎-elim (λ (e : t ≡ x). omega (arith, ap code e)) (λ r. absurd (List·Memᴰ·not-nil r)) (List·Memᴰ·cases-cons m)
+sorted-under code (x ∷ l) s (suc j) d h t m =
+    ⊎-elim (λ (e : t ≡ x). omega (arith, ap code e, s .0 (getD l j d) (getD-mem l j d (le-of-suc-le-suc h))))
+    (λ r. sorted-under code l (s .1) j d (le-of-suc-le-suc h) t r)
+    (List·Memᴰ·cases-cons m)
+
+pub mem-first : {A : Type 0} {x : A} (k : ℕ) (l : List A) → List·Memᴰ x (take k l) → List·Memᴰ x l
+mem-first {x = x} k l m = subst (List·Memᴰ x) (take-append-drop k l) (Memᴰ·append-left (drop k l) m)
 
 -- the k-th distance of the first k
 pub kth-at : (j : ℕ) (es : List Entry) (d : Entry) → j < length es → kth (suc j) (take (suc j) es) ≡ getD es j d .distance
@@ -123,47 +143,49 @@ module _ (k : ℕ) (q : Point3f) (n : Slot) (P : List Entry) (good : AllGood P) 
 
   pub below-kth : lt (e .distance) (kth k (take k S)) ≡ true → belowInfinity e ≡ true
   unfolding belowInfinity
-  below-kth h = true-T _ (lt-le-trans (e .distance) (kth k (take k S)) infinite (T-true _ h) (highest (kth k (take k S)) kth-number))
+  below-kth h = is-true _ (lt-le-trans (e .distance) (kth k (take k S)) infinite (T-true _ h) (highest (kth k (take k S)) kth-number))
 
   -- taken: the first k of the sort with it
-  taken : belowInfinity e ≡ true → take k (place e (take k S)) ≡ take k (after far e S)
-  taken b = ap (take k) (place-after e (take k S) (e-good b) (λ x m. S-good x (mem-take k S m))) ∙ take-after far k e S
-    where
-      mem-take : {x : Entry} (j : ℕ) (l : List Entry) → List·Memᴰ x (take j l) → List·Memᴰ x l
-      mem-take zero l m = absurd (List·Memᴰ·not-nil m)
-      mem-take (suc j) [] m = m
-      mem-take (suc j) (y ∷ l) m = ⊎-elim (λ p. List·Memᴰ·head p) (λ r. List·Memᴰ·tail (mem-take j l r)) (List·Memᴰ·cases-cons m)
+  taken : belowInfinity e ≡ true → take k (place e (take k S)) ≡ take k (insertAfter far e S)
+  taken b = ap (take k) (place-after e (take k S) (e-good b) (λ x m. S-good x (mem-first k S m))) ∙ take-after far k e S
+
+  -- what comes after the first does not change them
+  take-past : (j : ℕ) → j ≤ length S → ((t : Entry) → List·Memᴰ t (take j S) → far t ≤ far e) → take j (insertAfter far e S) ≡ take j S
+  take-past j h f =
+      sym (take-after far j e S)
+      ∙ ap (λ (i : ℕ). take i (insertAfter far e (take j S))) (sym (length-take-le j S h))
+      ∙ held-idle far e (take j S) f
 
   -- not taken, though below infinity: k are held, none of them farther
-  passed : belowInfinity e ≡ true → lt (e .distance) (kth k (take k S)) ≡ false → take k S ≡ take k (after far e S)
+  passed : belowInfinity e ≡ true → lt (e .distance) (kth k (take k S)) ≡ false → take k S ≡ take k (insertAfter far e S)
   unfolding belowInfinity
   passed b h = go k refl
     where
-      go : (j : ℕ) → k ≡ j → take j S ≡ take j (after far e S)
+      go : (j : ℕ) → k ≡ j → take j S ≡ take j (insertAfter far e S)
       go zero p = refl
       go (suc j) p = pick (ltb j (length S)) refl
         where
           h′ : lt (e .distance) (kth (suc j) (take (suc j) S)) ≡ false
           h′ = subst (λ (i : ℕ). lt (e .distance) (kth i (take i S)) ≡ false) p h
 
-          pick : (c : Bool) → ltb j (length S) ≡ c → take (suc j) S ≡ take (suc j) (after far e S)
+          pick : (c : Bool) → ltb j (length S) ≡ c → take (suc j) S ≡ take (suc j) (insertAfter far e S)
           pick true r =
               let l : j < length S = ltb-true j (length S) r in
               let g = S-good (getD S j e) (getD-mem S j e l) in
               let w : lt (e .distance) (getD S j e .distance) ≡ false = ap (lt (e .distance)) (sym (kth-at j S e l)) ∙ h′ in
               let v : far (getD S j e) ≤ far e = ltb-false (far e) (far (getD S j e)) (sym (lt-far e (getD S j e) (e-good b) g) ∙ w) in
-              sym (take-past far (suc j) e e S l (λ i m. ℕ-le-trans (sorted-at far S sorted i j e (le-of-suc-le-suc m) l) v))
+              sym (take-past (suc j) l (λ t m. ℕ-le-trans (sorted-under far S sorted j e l t m) v))
             where
               sorted : Sorted far S
               sorted = sort-sorted far P
           pick false r = absurd (subst T (sym b ∙ ap (lt (e .distance)) (sym (kth-none j S (ltb-false j (length S) r))) ∙ h′) tt)
 
-  pub step : offer k q n (take k S) ≡ cond (belowInfinity e) (take k (after far e S)) (take k S)
+  pub step : offer k q n (take k S) ≡ cond (belowInfinity e) (take k (insertAfter far e S)) (take k S)
   unfolding offer
   step = go (belowInfinity e) (lt (e .distance) (kth k (take k S))) refl refl
     where
       go : (b c : Bool) → belowInfinity e ≡ b → lt (e .distance) (kth k (take k S)) ≡ c
-          → cond c (take k (place e (take k S))) (take k S) ≡ cond b (take k (after far e S)) (take k S)
+          → cond c (take k (place e (take k S))) (take k S) ≡ cond b (take k (insertAfter far e S)) (take k S)
       go true true p r = taken p
       go true false p r = passed p r
       go false true p r = absurd (subst T (sym (below-kth r) ∙ p) tt)
@@ -191,7 +213,7 @@ module _ (k : ℕ) (q : Point3f) where
       Rest = (Q : List Entry) → AllGood Q → each (offer k q) ns (take k (sort far Q)) ≡ take k (sort far (Q ++ rest))
 
       go : Rest → (b : Bool) → belowInfinity (entry q n) ≡ b
-          → each (offer k q) ns (cond b (take k (after far (entry q n) (sort far P))) (take k (sort far P)))
+          → each (offer k q) ns (cond b (take k (insertAfter far (entry q n) (sort far P))) (take k (sort far P)))
           ≡ take k (sort far (P ++ cond b (entry q n ∷ rest) rest))
       go ih true p =
           ap (λ (l : List Entry). each (offer k q) ns (take k l)) (sym (sort-snoc far P (entry q n)))

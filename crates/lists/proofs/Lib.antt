@@ -1,4 +1,3 @@
-pub mod Stable
 pub mod KNearest
 pub mod Follow
 pub mod Built
@@ -9,3 +8,4 @@ pub mod Seen
 pub mod Walking
 pub mod Rule
 pub mod Determined
+pub mod Table

@@ -2,8 +2,7 @@
 use mathlib.Core.Path.{_≡_, refl, sym, ap, ap₂, _∙_, subst}
 use mathlib.Core.Bool.{Bool, true, false, not, _||_, cond}
 use mathlib.Core.List.{List, [], _∷_, _++_, map, map-append, append-assoc}
-use Prim.Native.Nat.{ℕ, zero, suc, min, _+_, _*_, _^_, _≤_, _<_}
-use native.Mathlib.Nat.{min-eq-left, min-eq-right}
+use Prim.Native.Nat.{ℕ, suc, min, _+_, _*_, _^_, _≤_, _<_}
 use native.Mathlib.Numerals.{add-one}
 use native.Mathlib.Omega.{arith}
 use lib.Dec.{T, ltb, eqb}
@@ -13,20 +12,18 @@ use lib.Ieee.{Float, nan, binary32, fits}
 use borrow.Author.Tests.{ltb-true, ltb-false, lt-ltb, le-ltb, eqb-true, eq-eqb, ne-eqb}
 use Rattle.bits.specs.Root.{root}
 use Rattle.space.specs.declared.Point3f.{Point3f}
-use Rattle.tree.specs.Refuse.{Outcome, refused, gives, uneven, tooMany, short, refuse, left, returned, overwrite}
+use Rattle.tree.specs.Refuse.{Outcome, refused, gives, uneven, tooMany, refuse, overwrite}
 use Rattle.tree.specs.Part.{laid, lent}
-use Rattle.tree.specs.Slots.{slots}
 use Rattle.tree.proofs.Slots.{slots-length}
 use Rattle.tree.proofs.Cloud.{lent-laid}
 use Rattle.lists.specs.Entry.{Entry, indicesIn, squaresIn, rootsIn}
 use Rattle.lists.specs.Shift.{firstBy}
 use Rattle.lists.specs.KNearest.{kNearest}
-use Rattle.lists.specs.Cases.{outcomeOf}
 use Rattle.lists.specs.Entries.{listing, refusalOf, nearestListing, Written, Held, NearestWritten}
 use Rattle.lists.specs.declared.Listed.{Listed}
 use Rattle.lists.specs.declared.Listed.the-variants.{Count, Refused}
 use Rattle.lists.proofs.Cut.{k-cut}
-use Rattle.lists.proofs.Seen.{nothing, heldOf, see, judge, seen-all, held-few}
+use Rattle.lists.proofs.Seen.{nothing, see, judge, seen-all, held-few}
 use Rattle.lists.proofs.Built.{k-built}
 use Rattle.tree.specs.Walk.{walk}
 
@@ -228,3 +225,30 @@ held-roots {es} {is} {ds} {n} {is′} {ds′} h = record { count = h .count; ind
 
 pub held-rooted : {es : List Entry} {is : List ℕ} {ds : List Float} {n : ℕ} {is′ : List ℕ} {ds′ ds″ : List Float} → Held es squaresIn is ds n is′ ds′ → ds″ ≡ firstBy (root binary32) ds′ n → Held es rootsIn is ds n is′ ds″
 held-rooted {es} {is} {ds} {n} {is′} {ds′} {ds″} h e = subst (λ (u : List Float). Held es rootsIn is ds n is′ u) (sym e) (held-roots h)
+
+-- what an answer says of the rule and of the lists: a number that they hold so many of its entries, a refusal that they are as they were, whatever is handed out
+module _ {handed : List Entry → List Float} {is : List ℕ} {ds : List Float} {is′ : List ℕ} {ds′ : List Float} where
+  written-held : {n : ℕ} (rule : Outcome (List Entry)) → Written rule handed is ds (Count n) is′ ds′ → (es : List Entry) × (rule ≡ gives es) × Held es handed is ds n is′ ds′
+  written-held (refused m) w = let p = w .answer in absurd (let z : _≡_ {A = ℕ} 0 1 = cc in omega arith)
+  written-held {n} (gives es) w = let p = w .answer in (es, refl, record { count = let g : n ≡ length es = cc in g; indices = w .indices; distances = w .distances })
+
+  written-kept : {m : ℕ} (other : List Entry → List Float) (rule : Outcome (List Entry)) → Written rule handed is ds (Refused m) is′ ds′ → Written rule other is ds (Refused m) is′ ds′
+  written-kept other (refused m) w = record { answer = w .answer; indices = w .indices; distances = w .distances }
+  written-kept other (gives es) w = let p = w .answer in absurd (let z : _≡_ {A = ℕ} 0 1 = cc in omega arith)
+
+module _ {coords : List Float} {indices : List ℕ} {q : Point3f} {k : ℕ} {is : List ℕ} {ds : List Float} {r : Listed} {is′ : List ℕ} {ds′ : List Float} (w : NearestWritten squaresIn coords indices q k is ds r is′ ds′) where
+  abbrev rule : Outcome (List Entry)
+  rule = nearestListing coords indices q k is ds
+
+  told : (s : Listed) → r ≡ s → Written rule squaresIn is ds s is′ ds′
+  told s e = subst (λ (t : Listed). Written rule squaresIn is ds t is′ ds′) e (w .written)
+
+  pub nearest-fits : {n : ℕ} → r ≡ Count n → n ≤ length ds′
+  nearest-fits {n} e = held-fits (written-held rule (told (Count n) e) .2)
+
+  pub nearest-rooted : {n : ℕ} {ds″ : List Float} → r ≡ Count n → ds″ ≡ firstBy (root binary32) ds′ n → NearestWritten rootsIn coords indices q k is ds (Count n) is′ ds″
+  nearest-rooted {n} e f = let h = written-held rule (told (Count n) e) in record { written = written-gives (h .0) (h .1) (held-rooted (h .2) f); built = w .built }
+
+  pub nearest-kept : {m : ℕ} → r ≡ Refused m → NearestWritten rootsIn coords indices q k is ds r is′ ds′
+  nearest-kept {m} e =
+      record { written = subst (λ (t : Listed). Written rule rootsIn is ds t is′ ds′) (sym e) (written-kept rootsIn rule (told (Refused m) e)); built = w .built }

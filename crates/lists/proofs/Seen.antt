@@ -4,7 +4,7 @@ use mathlib.Core.Path.{_≡_, refl, sym, ap, _∙_, subst}
 use mathlib.Core.Bool.{Bool, true, false, cond}
 use mathlib.Core.Logic.{⊎-elim}
 use mathlib.Core.List.{List, [], _∷_, _++_}
-use mathlib.Core.List.{List·Memᴰ, List·Memᴰ·head, List·Memᴰ·tail, List·Memᴰ·not-nil, List·Memᴰ·cases-cons, List·Memᴰ·append-cases}
+use mathlib.Core.List.{List·Memᴰ·not-nil, List·Memᴰ·cases-cons, List·Memᴰ·append-cases}
 use Prim.Native.Nat.{ℕ, zero, suc, _≤_, _<_}
 use native.Mathlib.Nat.{le-of-suc-le-suc, not-suc-le-zero}
 use native.Mathlib.Omega.{arith}
@@ -22,14 +22,15 @@ use Rattle.tree.specs.Slots.{Slot}
 use Rattle.tree.specs.Part.{Part}
 use Rattle.tree.specs.Sort.{sort}
 use Rattle.tree.specs.Walk.{walk}
-use Rattle.tree.proofs.Perm.{perm-mem, perm-length}
+use Rattle.tree.proofs.Perm.{perm-mem}
 use Rattle.tree.proofs.Sort.{Sorted, side, sort-perm, sort-sorted, sort-length}
+use Rattle.tree.proofs.Stable.{insertAfter, after-here, after-past, sort-snoc}
 use Rattle.tree.proofs.Walk.{Falling}
 use Rattle.lists.specs.Entry.{Entry, entry, far}
 use Rattle.lists.specs.KNearest.{kth, offer, belowKth, belowInfinity, kNearest}
-use Rattle.lists.proofs.Stable.{after, after-here, after-past, sort-snoc}
 use Rattle.lists.proofs.KNearest.{Good, AllGood, T-true, step, e-good, getD-mem, sorted-at, kth-at, kth-none, kth-number}
-use Rattle.lists.proofs.Follow.{changed, changed-id, walk-follows}
+pub use Rattle.lists.proofs.KNearest.{mem-first}
+use Rattle.lists.proofs.Follow.{changed-id, walk-follows}
 
 pub record Seen : Type 0 where
   pub all : List Entry
@@ -49,11 +50,6 @@ fit q n = distance-fits q (n .point)
 
 -- ---- parts of lists in order
 module _ {A : Type 0} where
-  pub mem-first : {x : A} (k : ℕ) (l : List A) → List·Memᴰ x (take k l) → List·Memᴰ x l
-  mem-first zero l m = absurd (List·Memᴰ·not-nil m)
-  mem-first (suc k) [] m = m
-  mem-first (suc k) (y ∷ l) m = ⊎-elim (λ p. List·Memᴰ·head p) (λ r. List·Memᴰ·tail (mem-first k l r)) (List·Memᴰ·cases-cons m)
-
   pub sorted-first : (key : A → ℕ) (k : ℕ) (l : List A) → Sorted key l → Sorted key (take k l)
   unfolding Sorted
   sorted-first key zero l s = tt
@@ -61,8 +57,8 @@ module _ {A : Type 0} where
   sorted-first key (suc k) (x ∷ l) s = (λ t m. s .0 t (mem-first k l m), sorted-first key k l (s .1))
 
   -- with one element more no place has a higher number
-  after-under : (key : A → ℕ) (d x : A) (l : List A) (j : ℕ) → Sorted key l → j < length l → key (getD (after key x l) j d) ≤ key (getD l j d)
-  unfolding Sorted after
+  after-under : (key : A → ℕ) (d x : A) (l : List A) (j : ℕ) → Sorted key l → j < length l → key (getD (insertAfter key x l) j d) ≤ key (getD l j d)
+  unfolding Sorted insertAfter
   after-under key d x [] j s h = absurd (not-suc-le-zero h)
   after-under key d x (b ∷ l) j s h =
       ⊎-elim
@@ -70,7 +66,7 @@ module _ {A : Type 0} where
       (λ (p : key x < key b). subst (λ (r : List A). key (getD r j d) ≤ key (getD (b ∷ l) j d)) (sym (after-here key x b l p)) (here j h p))
       (side key b x)
     where
-      past : (i : ℕ) → i < suc (length l) → ((t : ℕ) → t < length l → key (getD (after key x l) t d) ≤ key (getD l t d)) → key (getD (b ∷ after key x l) i d) ≤ key (getD (b ∷ l) i d)
+      past : (i : ℕ) → i < suc (length l) → ((t : ℕ) → t < length l → key (getD (insertAfter key x l) t d) ≤ key (getD l t d)) → key (getD (b ∷ insertAfter key x l) i d) ≤ key (getD (b ∷ l) i d)
       past zero g ih = omega arith
       past (suc i) g ih = ih i (le-of-suc-le-suc g)
 
@@ -103,7 +99,7 @@ module _ (k : ℕ) (q : Point3f) where
   unfolding see
   see-held n s = go (belowInfinity (entry q n)) refl ∙ sym (step k q n (s .all) (s .good) (clear q n) (fit q n))
     where
-      go : (c : Bool) (b : belowInfinity (entry q n) ≡ c) → heldOf (seeBy n s c b) ≡ cond c (take k (after far (entry q n) (sort far (s .all)))) (take k (sort far (s .all)))
+      go : (c : Bool) (b : belowInfinity (entry q n) ≡ c) → heldOf (seeBy n s c b) ≡ cond c (take k (insertAfter far (entry q n) (sort far (s .all)))) (take k (sort far (s .all)))
       go true b = unfold seeBy in ap (take k) (sort-snoc far (s .all) (entry q n))
       go false b = unfold seeBy in refl
 
@@ -132,7 +128,7 @@ module _ (k : ℕ) (q : Point3f) where
   held-few s = omega (arith, length-take k (sort far (s .all)))
 
   -- ---- the k-th distance only falls
-  falls : (n : Slot) (x : Entry) (s u : Seen) → sort far (u .all) ≡ after far x (sort far (s .all)) → length (s .all) ≤ length (u .all) → T (le (kth k (heldOf u)) (kth k (heldOf s)))
+  falls : (n : Slot) (x : Entry) (s u : Seen) → sort far (u .all) ≡ insertAfter far x (sort far (s .all)) → length (s .all) ≤ length (u .all) → T (le (kth k (heldOf u)) (kth k (heldOf s)))
   unfolding kth far
   falls n x s u e h = go k refl
     where

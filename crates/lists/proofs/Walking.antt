@@ -1,11 +1,11 @@
 -- The loop of k nearest: the kit's laws over what the walk has seen, beside what the lent lists hold of it. Assumes nothing.
 use mathlib.Core.Path.{_≡_, refl, sym, ap, _∙_, subst}
 use mathlib.Core.Bool.{Bool, true, false}
-use mathlib.Core.List.{List, []}
+use mathlib.Core.List.{List}
 use Prim.Native.Nat.{ℕ, _+_, _-_, _≤_, _<_}
 use native.Mathlib.Omega.{arith}
 use lib.ListN.{length, getD, set, take, length-map}
-use lib.Seq.{slice, take-nil}
+use lib.Seq.{take-nil}
 use lib.Ieee.{Float, lt}
 use Rattle.space.specs.declared.Point3f.{Point3f}
 use Rattle.space.specs.Distance.{distanceSquared}
@@ -18,12 +18,12 @@ use Rattle.walk.specs.Node.{nodeOf, waits}
 use Rattle.walk.specs.declared.Group.{Group}
 use Rattle.walk.specs.declared.Waiting.{Waiting}
 use Rattle.walk.specs.declared.Node.{Node}
-use Rattle.walk.proofs.Stack.{slotAt, topOf, Going, load, finish, taken, left-out, kept, dropped, begun}
+use Rattle.walk.proofs.Stack.{slotAt, topOf, Going, finish, taken, left-out, kept, dropped, begun}
 use Rattle.lists.specs.Entry.{Entry, far, indicesIn, squaresIn}
-use Rattle.lists.specs.KNearest.{kth, offer, belowKth, kNearest}
+use Rattle.lists.specs.KNearest.{belowKth, kNearest}
 use Rattle.lists.specs.Shift.{limitOf, Offered}
 use Rattle.lists.specs.Entries.{Held}
-use Rattle.lists.proofs.Offering.{Front, front-start, front-end, limit-is, Taken, offered}
+use Rattle.lists.proofs.Offering.{front-start, front-end, limit-is, Taken, offered}
 use Rattle.lists.proofs.Seen.{Seen, nothing, heldOf, see, judge, see-held, seen-all, seen-falling, held-sorted, held-good, held-few}
 
 -- m slots, k over 0, the lists as they were; the stack, the group at hand, how many are held, and the lists now

@@ -71,12 +71,6 @@ impl Held {
     }
 }
 
-fn infinity() -> f32
-    ensures { λ r. ⌜ r ≡ infinite ⌝ }
-{
-    f32::from_bits(0x7f80_0000)
-}
-
 // The pruned walk: the near part is gone into at once, far parts wait, and each is judged when it is taken off.
 // One that is not below the best already does not wait, since the best only falls.
 fn pruned_walk(
@@ -148,5 +142,5 @@ pub fn find_nearest(coords: &[f32], indices: &[u32], query: Point3f) -> Searched
     ensures demand2 { λ r. ⌜ MeetsDemand2 (now (coords .entry)) (now (indices .entry)) query infinite (Nearest.Nothing) r ⌝ }
     ensures demand3 { λ r. ⌜ MeetsDemand3 (now (coords .entry)) (now (indices .entry)) query r ⌝ }
 {
-    find_nearest_bounded(coords, indices, query, infinity(), Nearest::Nothing)
+    find_nearest_bounded(coords, indices, query, walk::infinity(), Nearest::Nothing)
 }

@@ -4,6 +4,7 @@ ghost use mathlib.Core.Path.{_≡_};
 ghost use mathlib.Core.Bool.{cond};
 ghost use Prim.Native.Nat.{_+_, _*_, _<_, _≤_};
 ghost use lib.ListN.{length};
+ghost use Rattle.bits.specs.Constants.{infinite};
 ghost use Rattle.tree.specs.Slots.{pointAt};
 ghost use Rattle.tree.specs.Grow.{nextAxis};
 ghost use Rattle.walk.specs.Node.{nodeBy, nodeOf, waits};
@@ -95,6 +96,13 @@ impl Waiting {
     {
         if self.group.len == 0 { false } else { entered }
     }
+}
+
+// What a search has to beat while it holds nothing.
+pub fn infinity() -> f32
+    ensures { λ r. ⌜ r ≡ infinite ⌝ }
+{
+    f32::from_bits(0x7f80_0000)
 }
 
 fn pick(first: bool, a: u32, b: u32) -> u32

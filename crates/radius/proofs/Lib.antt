@@ -1,5 +1,6 @@
 pub mod Heap
 pub mod HeapSort
+pub mod Keys
 pub mod Pairs
 pub mod Rising
 pub mod Found
@@ -7,6 +8,8 @@ pub mod Rename
 pub mod Parting
 pub mod Ranks
 pub mod Turns
+pub mod QuickSort
 pub mod Gathering
 pub mod Result
 pub mod Determined
+pub mod Table

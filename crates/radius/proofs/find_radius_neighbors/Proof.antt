@@ -26,10 +26,10 @@ slots-within-requires : tie.Need-slots-within-requires
 slots-within-requires c κs = let s = sound (c .before .before .before .before .before .before .before .before .before .before .args .coords .now) (c .before .before .before .before .before .before .before .before .before .before .args .indices .now) (length (c .before .before .before .before .before .before .before .before .before .before .args .indices .now)) (c .before .before .before .before .before .least .result) (sym (c .before .before .before .before .refusal .ensures) ∙ c .before .before .before .if1 .left) in let l = c .before .before .before .before .before .least .ensures in (s .even, s .few, omega (arith, s .fits-in), omega (arith, s .fits-in))
 
 name-slots-requires : tie.Need-name-slots-requires
-name-slots-requires c κs = let s = sound (c .before .before .before .before .before .before .before .before .before .before .before .before .before .before .before .before .args .coords .now) (c .before .before .before .before .before .before .before .before .before .before .before .before .before .before .before .before .args .indices .now) (length (c .before .before .before .before .before .before .before .before .before .before .before .before .before .before .before .before .args .indices .now)) (c .before .before .before .before .before .before .before .before .before .before .before .least .result) (sym (c .before .before .before .before .before .before .before .before .before .before .refusal .ensures) ∙ c .before .before .before .before .before .before .before .before .before .if1 .left) in (held-long [] (c .before .before .before .before .before .slots-within .ensures), named-slots (c .before .before .before .before .before .before .before .before .before .before .before .before .before .before .before .before .args .coords .now) (length (c .before .before .before .before .before .before .before .before .before .before .before .before .before .before .before .before .args .indices .now)) (c .before .before .before .before .before .before .before .before .before .before .before .before .before .before .before .before .args .query) (c .before .before .before .before .before .before .before .before .before .before .before .before .before .before .before .before .args .radius) (s .few) (c .before .before .before .before .before .slots-within .ensures))
+name-slots-requires c κs = let s = sound (c .before .before .before .before .before .before .before .before .before .before .before .before .before .before .before .before .args .coords .now) (c .before .before .before .before .before .before .before .before .before .before .before .before .before .before .before .before .args .indices .now) (length (c .before .before .before .before .before .before .before .before .before .before .before .before .before .before .before .before .args .indices .now)) (c .before .before .before .before .before .before .before .before .before .before .before .least .result) (sym (c .before .before .before .before .before .before .before .before .before .before .refusal .ensures) ∙ c .before .before .before .before .before .before .before .before .before .if1 .left) in let h = held-long [] (c .before .before .before .before .before .slots-within .ensures) in (omega arith, λ k j. named-slots (c .before .before .before .before .before .before .before .before .before .before .before .before .before .before .before .before .args .coords .now) (length (c .before .before .before .before .before .before .before .before .before .before .before .before .before .before .before .before .args .indices .now)) (c .before .before .before .before .before .before .before .before .before .before .before .before .before .before .before .before .args .query) (c .before .before .before .before .before .before .before .before .before .before .before .before .before .before .before .before .args .radius) (s .few) (c .before .before .before .before .before .slots-within .ensures) k (omega arith))
 
 take-roots-requires : tie.Need-take-roots-requires
-take-roots-requires c κs = held-fits (c .before .before .before .before .before .before .before .before .before .slots-within .ensures)
+take-roots-requires c κs = let h = held-fits (c .before .before .before .before .before .before .before .before .before .slots-within .ensures) in omega arith
 
 cast-t24 : tie.Need-cast-t24
 cast-t24 c = let s = sound (c .before .before .before .before .before .before .before .before .before .before .before .before .before .before .before .before .before .before .before .before .before .before .before .args .coords .now) (c .before .before .before .before .before .before .before .before .before .before .before .before .before .before .before .before .before .before .before .before .before .before .before .args .indices .now) (length (c .before .before .before .before .before .before .before .before .before .before .before .before .before .before .before .before .before .before .before .before .before .before .before .args .indices .now)) (c .before .before .before .before .before .before .before .before .before .before .before .before .before .before .before .before .before .before .least .result) (sym (c .before .before .before .before .before .before .before .before .before .before .before .before .before .before .before .before .before .refusal .ensures) ∙ c .before .before .before .before .before .before .before .before .before .before .before .before .before .before .before .before .if1 .left) in omega (arith, s .few, count-small (c .before .before .before .before .before .before .before .before .before .before .before .before .before .before .before .before .before .before .before .before .before .before .before .args .coords .now) (length (c .before .before .before .before .before .before .before .before .before .before .before .before .before .before .before .before .before .before .before .before .before .before .before .args .indices .now)) (c .before .before .before .before .before .before .before .before .before .before .before .before .before .before .before .before .before .before .before .before .before .before .before .args .query) (c .before .before .before .before .before .before .before .before .before .before .before .before .before .before .before .before .before .before .before .before .before .before .before .args .radius) (s .few) (c .before .before .before .before .before .before .before .before .before .before .before .before .slots-within .ensures))

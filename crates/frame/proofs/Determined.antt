@@ -10,7 +10,7 @@ use Rattle.frame.specs.Entries.{scaleIn, centredIn, frameIn}
 use Rattle.frame.specs.Frame.{localPoint}
 use Rattle.frame.specs.declared.LocalFrame.{LocalFrame}
 use Rattle.space.specs.declared.Point3f.{Point3f}
-use Rattle.sums.proofs.Determined.{value-determined}
+use Rattle.bits.proofs.Determined.{value-determined}
 
 -- the cases of each answer are told apart
 scaled-apart : (r s : S.Scaled) → scaled r ≡ scaled s → r ≡ s

@@ -14,6 +14,12 @@ use Rattle.space.specs.declared.Point3f.{Point3f}
 use Rattle.tree.specs.Cloud.{points, finitePoint}
 use Rattle.tree.specs.Refuse.{refused, gives}
 use Rattle.frame.specs.declared.LocalFrame.{LocalFrame}
+use Rattle.frame.specs.declared.CloudScale.{CloudScale}
+use Rattle.frame.specs.declared.Moments.{Moments}
+use Rattle.frame.specs.declared.Scaled as S
+use Rattle.frame.specs.declared.Centred as C
+use Rattle.frame.specs.declared.Framed as F
+use Rattle.frame.specs.Cases.{scaled, centred, framed}
 use Rattle.frame.specs.Moments.{addPoint, addPoints, momentsOf, divisor, mean}
 use Rattle.frame.specs.Frame.{atLeastNought, radius, scaleOf, frameOn, near, frameOf, localPoint}
 use Rattle.frame.specs.Entries.{scaleIn, centredIn, frameIn}
@@ -23,6 +29,9 @@ abbrev #1 : Float
 
 abbrev -1 : Float
 -1 = fin true 1 (pos 0)
+
+abbrev #2 : Float
+#2 = fin false 1 (pos 1)
 
 abbrev #99 : Float
 #99 = fin false 99 (pos 0)
@@ -77,6 +86,21 @@ record Table : Type 0 where
   ragged : (scaleIn (#1 ∷ []) ≡ refused 1) × (centredIn (#1 ∷ #1 ∷ []) ≡ refused 1) × (frameIn (#1 ∷ #1 ∷ #1 ∷ #1 ∷ []) ≡ refused 1)
   -- a local point is rounded once, when it is narrowed
   rounded : localPoint (frameAt (fin false 1 (negsuc 29))) (onX #1) ≡ onX #1
+  -- the cases of the answers
+  cases-scale : (scaled (S.the-variants.Scale (record { centroid = onX #1; radius = #1 })) ≡ gives (record { centroid = onX #1; radius = #1 })) × (scaled (S.the-variants.Refused 2) ≡ refused 2)
+  cases-centred : (centred (C.the-variants.Frame (frameAt #1)) ≡ gives (frameAt #1)) × (centred (C.the-variants.Refused 2) ≡ refused 2)
+  cases-framed : (framed (F.the-variants.Frame (frameAt #1)) ≡ gives (some (frameAt #1))) × (framed F.the-variants.NoFrame ≡ gives none) × (framed (F.the-variants.Refused 2) ≡ refused 2)
+  -- added left to right: 1, 1 and 2 ^ 53
+  left-to-right : momentsOf (#1 ∷ nought ∷ nought ∷ #1 ∷ nought ∷ nought ∷ fin false 1 (pos 53) ∷ nought ∷ nought ∷ []) .sum .x ≡ fin false 4503599627370497 (pos 1)
+  -- the origin is the f64 mean, 4/3, and a local point is taken from it before it is narrowed
+  in-f64 : centredIn (#1 ∷ nought ∷ nought ∷ #1 ∷ nought ∷ nought ∷ #2 ∷ nought ∷ nought ∷ []) ≡ gives (frameAt (fin false 6004799503160661 (negsuc 51)))
+  narrowed-last : localPoint (frameAt (fin false 1073741825 (negsuc 29))) (onX #1) ≡ onX (fin true 1 (negsuc 29))
+  -- 0 and 4: the spread is 4, the radius its root; and the root is an f64 before it is narrowed, here just above a half-way point
+  rooted : scaleOf (pair nought (fin false 1 (pos 2))) ≡ record { centroid = onX #2; radius = #2 }
+  rooted-in-f64 : radius (record { count = 1; sum = record { x = nought; y = nought; z = nought }; «sum_sq» = fin false 4503600164241425 (negsuc 51) }) ≡ #1
+  -- the norm is an f32, and y and z are in it
+  norm-overflows : near (record { centroid = onX (fin false 1 (pos 64)); radius = fin false 1 (pos 63) }) ≡ false
+  norms : (near (record { centroid = record { x = nought; y = #1; z = nought }; radius = nought }) ≡ false) × (near (record { centroid = record { x = nought; y = nought; z = #1 }; radius = nought }) ≡ false)
 
 table : Table
 unfolding scaleIn centredIn frameIn momentsOf addPoints addPoint points finitePoint finite mean divisor radius scaleOf frameOn near frameOf localPoint atLeastNought root wholeRoot rootDigits narrow widen add sub mul div neg sum round units odd size ofInt lt le eq
@@ -93,4 +117,14 @@ table =
       single = refl;
       ragged = (refl, refl, refl);
       rounded = refl;
+      cases-scale = (refl, refl);
+      cases-centred = (refl, refl);
+      cases-framed = (refl, refl, refl);
+      left-to-right = refl;
+      in-f64 = refl;
+      narrowed-last = refl;
+      rooted = refl;
+      rooted-in-f64 = refl;
+      norm-overflows = refl;
+      norms = (refl, refl);
     }

@@ -4,6 +4,7 @@ use native.Mathlib.Omega.{arith}
 use mathlib.Core.Path.{_≡_, refl, sym, _∙_}
 use mathlib.Core.List.{List}
 use lib.Ieee.{Float}
+use Rattle.bits.proofs.Determined.{value-determined}
 use Rattle.matching.specs.declared.Limit.{Limit}
 use Rattle.matching.specs.declared.Paired as P
 use Rattle.matching.specs.declared.Matched as M
@@ -26,7 +27,7 @@ matched-tells M.the-variants.Done M.the-variants.Done e = refl
 
 -- `max_distance_sq`
 pub bound-determined : (limit : Limit) (r s : Float) → r ≡ boundOf limit → s ≡ boundOf limit → r ≡ s
-bound-determined limit r s a b = a ∙ sym b
+bound-determined limit r s = value-determined
 
 -- `target_point`: which part, and what it holds
 pub part-determined : (start : ℕ × ℕ) (cloud : List Float) (index : ℕ) (p q : ℕ × ℕ) (r s : List Float)

@@ -9,7 +9,7 @@ use lib.ListN.{length, take, drop, set, getD}
 use lib.Seq.{take-suc, take-all, length-take-le, drop-length}
 use Rattle.tree.specs.Refuse.{overwrite}
 use Rattle.matching.specs.Entries.{entriesFrom}
-use Rattle.matching.proofs.Overwrite.{over-one, over-seam, length-over}
+use Rattle.tree.proofs.Overwrite.{over-one, over-seam, length-over}
 
 module _ (entry : ℕ → ℕ → ℕ) where
   entries-length : (j : ℕ) (ss : List ℕ) → length (entriesFrom entry j ss) ≡ length ss
@@ -49,7 +49,7 @@ module _ (entry : ℕ → ℕ → ℕ) where
   -- the seed still stands where the next entry goes
   pub after-seed : (ss : List ℕ) (i : ℕ) → i < length ss → getD (after ss i) i 0 ≡ getD ss i 0
   after-seed ss i h =
-      subst (λ (k : ℕ). getD (after ss i) k 0 ≡ getD ss k 0) (written-length ss i (omega arith)) (over-seam (entriesFrom entry 0 (take i ss)) ss)
+      subst (λ (k : ℕ). getD (after ss i) k 0 ≡ getD ss k 0) (written-length ss i (omega arith)) (over-seam (entriesFrom entry 0 (take i ss)) ss 0)
 
   grown : (ss : List ℕ) (i : ℕ) → i < length ss → entriesFrom entry 0 (take (i + 1) ss) ≡ entriesFrom entry 0 (take i ss) ++ (entry i (getD ss i 0) ∷ [])
   grown ss i h =

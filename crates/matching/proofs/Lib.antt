@@ -1,4 +1,3 @@
-pub mod Overwrite
 pub mod Pairs
 pub mod Entries
 pub mod Refusals
@@ -6,3 +5,4 @@ pub mod Turns
 pub mod Demands
 pub mod Inside
 pub mod Determined
+pub mod Table

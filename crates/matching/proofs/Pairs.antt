@@ -11,7 +11,7 @@ use lib.Seq.{take-suc, drop-cons, set-append-seam, length-take-le, append-snoc}
 use borrow.Author.Tests.{eq-eqb, ne-eqb}
 use Rattle.tree.specs.Refuse.{noMatch, overwrite}
 use Rattle.matching.specs.Pairs.{Pair, pair, pairsFrom, pairs}
-use Rattle.matching.proofs.Overwrite.{over-one, length-over}
+use Rattle.tree.proofs.Overwrite.{over-one, length-over}
 
 -- what entry i adds to the list
 abbrev one : ℕ → ℕ → List Pair

@@ -19,7 +19,3 @@ collected-apart (Refused n) (Refused m) e = cc
 pub collect-determined : (source target : List Float) (matches : List ℕ) (r s : Collected)
     → collected r ≡ sumsIn source target matches → collected s ≡ sumsIn source target matches → r ≡ s
 collect-determined source target matches r s p q = collected-apart r s (p ∙ sym q)
-
--- an entry that promises `r ≡ v`: zero sums, the MSE and what is done with vectors
-pub value-determined : {A : Type 0} {v r s : A} → r ≡ v → s ≡ v → r ≡ s
-value-determined p q = p ∙ sym q

@@ -1,17 +1,20 @@
 -- A table over the definitions: the smallest inputs at which a wrong reading of document 01 gives other sums. Every row is by computation.
-use mathlib.Core.Path.{_≡_, refl}
+use mathlib.Core.Path.{_≡_, refl, ap, ap₂, _∙_}
 use mathlib.Core.List.{List, [], _∷_, _++_}
-use mathlib.Core.Bool.{false}
+use mathlib.Core.Bool.{true, false, _||_}
 use Prim.Native.Nat.{ℕ, _*_}
 use lib.IntN.{pos, negsuc}
-use lib.ListN.{replicate}
+use lib.ListN.{length, replicate}
 use lib.Ieee.{Float, nan, inf, fin, add, sub, mul, div, neg, sum, round, units, odd, size, ofInt}
 use Rattle.bits.specs.Constants.{nought}
 use Rattle.bits.specs.Convert.{widen, narrow}
 use Rattle.tree.specs.Slots.{slots}
-use Rattle.tree.specs.Refuse.{refused, gives, noMatch, anyEntryOutside}
+use Rattle.tree.specs.Refuse.{refused, gives, refuse, count, ragged, mismatched, tooMany, noMatch, anyEntryOutside}
 use Rattle.sums.specs.declared.Vector3d.{Vector3d}
 use Rattle.sums.specs.declared.CorrespondenceStats.{CorrespondenceStats}
+use Rattle.sums.specs.declared.Collected.the-variants.{Sums, Refused}
+use Rattle.sums.specs.Cases.{collected}
+use Rattle.sums.specs.Vector.{narrowPoint, minus, times, over, normSquared}
 use Rattle.sums.specs.Stats.{zeroSums, addPair, mergeSums, mse}
 use Rattle.sums.specs.Sums.{addEntry, addEntries, cut, addRuns, sumsBy, sums}
 use Rattle.sums.specs.Entries.{sumsIn}
@@ -94,6 +97,20 @@ record Table : Type 0 where
   outside : sumsIn line origin (0 ∷ 1 ∷ 0 ∷ 0 ∷ []) ≡ refused 5
   ragged-first : sumsIn line (#1 ∷ []) (9 ∷ 9 ∷ 9 ∷ 9 ∷ []) ≡ refused 1
   nothing : sumsIn [] [] [] ≡ gives zeroSums
+  -- runs of one: first to last, 1, 1 and 2 ^ 53; counts and errors of every run are in
+  first-to-last : sumsBy 1 origin (slots (#1 ∷ nought ∷ nought ∷ #1 ∷ nought ∷ nought ∷ huge ∷ nought ∷ nought ∷ []) (0 ∷ 0 ∷ 0 ∷ [])) .«sum_source» .x ≡ fin false 4503599627370497 (pos 1)
+  merged : (sumsBy 1 origin (slots (#1 ∷ nought ∷ nought ∷ #2 ∷ nought ∷ nought ∷ []) (0 ∷ 0 ∷ [])) .count ≡ 2)
+      × (sumsBy 1 origin (slots (#1 ∷ nought ∷ nought ∷ #2 ∷ nought ∷ nought ∷ []) (0 ∷ 0 ∷ [])) .«sum_sq_error» ≡ #5)
+  -- divided in f64: 16777217 is no f32
+  mse-in-f64 : mse (errors 5 (fin false 16777217 (pos 0))) ≡ fin false 6710887 (negsuc 0)
+  -- vectors: each coordinate, the first less the second, f64 throughout and narrowed once
+  narrowed : narrowPoint (vector (fin false 1073741825 (negsuc 29)) #2 #3) ≡ record { x = #1; y = #2; z = #3 }
+  taken-away : minus (vector #3 #5 #1) (vector #1 #2 #3) ≡ vector #2 #3 (fin true 1 (pos 1))
+  multiplied : times (fin false 4097 (pos 0)) (vector (fin false 4097 (pos 0)) #1 #2) ≡ vector (fin false 16785409 (pos 0)) (fin false 4097 (pos 0)) (fin false 4097 (pos 1))
+  divided : over (vector (fin false 1644167119 (pos 0)) (fin false 49 (pos 0)) (fin false 49 (pos 1))) (fin false 49 (pos 0)) ≡ vector (fin false 33554431 (pos 0)) #1 #2
+  norm : normSquared (vector #1 #2 #3) ≡ fin false 7 (pos 1)
+  -- the cases of the answer
+  cases : (collected (Sums zeroSums) ≡ gives zeroSums) × (collected (Refused 2) ≡ refused 2)
 
 table : Table
 unfolding sums sumsBy slots cut addRuns addEntries addEntry addPair mergeSums mse sumsIn anyEntryOutside narrow widen add sub mul div neg sum round units odd size ofInt
@@ -119,4 +136,22 @@ table =
       outside = refl;
       ragged-first = refl;
       nothing = refl;
+      first-to-last = refl;
+      merged = (refl, refl);
+      mse-in-f64 = refl;
+      narrowed = refl;
+      taken-away = refl;
+      multiplied = refl;
+      divided = refl;
+      norm = refl;
+      cases = (refl, refl);
     }
+
+-- 2: a cloud that long is too long for a row, so that it is told of every list
+long-target : (source target : List Float) (matches : List ℕ) → (ragged source || ragged target || mismatched source matches) ≡ false
+    → tooMany (count source) ≡ false → tooMany (count target) ≡ true → sumsIn source target matches ≡ refused 2
+unfolding sumsIn
+long-target source target matches even few h =
+    let next = refuse 5 (anyEntryOutside (count target) matches) (gives (sums source target matches)) in
+    ap₂ (λ a b. refuse 1 a (refuse 2 (b || tooMany (count target) || tooMany (length matches)) next)) even few
+    ∙ ap (λ b. refuse 2 (b || tooMany (length matches)) next) h

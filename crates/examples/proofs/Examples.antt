@@ -7,6 +7,7 @@ use Rattle.bits.specs.Convert.{widen, narrow}
 use Rattle.bits.specs.Root.{root, wholeRoot, rootDigits}
 use Rattle.bits.specs.Key.{key}
 use Rattle.space.specs.Distance.{distanceSquared, apart, leftIsNear}
+use Rattle.tree.specs.Refuse.{anyEntryOutside, anyIndexOutside}
 use Rattle.tree.specs.Slots.{slots, numbersOf, indicesOf, rank}
 use Rattle.tree.specs.Part.{laid, partOf, lent}
 use Rattle.tree.specs.Sort.{insert, sort}
@@ -19,7 +20,10 @@ use Rattle.lists.specs.Entry.{entry, far, indicesIn, squaresIn}
 use Rattle.lists.specs.KNearest.{place, kth, offer, belowKth, kNearest}
 use Rattle.lists.specs.Entries.{nearestListing}
 use Rattle.lists.specs.Radius.{within, gather, planeWithin, usable, inRadius}
+use Rattle.radius.specs.Entries.{radiusListing}
 use Rattle.matching.specs.Limit.{boundOf}
+use Rattle.matching.specs.Entries.{entriesFrom}
+use Rattle.matching.specs.Matching.{seedOf, answerFor, matchAll, matchIn}
 use Rattle.frame.specs.Moments.{addPoint, addPoints, momentsOf, divisor, mean}
 use Rattle.frame.specs.Frame.{atLeastNought, radius, scaleOf, frameOn, near, frameOf, localPoint}
 use Rattle.frame.specs.Entries.{frameIn}
@@ -30,15 +34,17 @@ unfolding
     written laid treeOf grow indexed finiteFrom finitePoint points finite sort insert rank key toBits size numbersOf indicesOf
     unbounded bounded searched walked walk lent partOf slots distanceSquared apart leftIsNear add sub mul neg sum round le lt eq
     boundOf nextUp ofBits ofFields odd nearestListing kNearest offer belowKth kth place entry indicesIn squaresIn
-    inRadius usable within gather planeWithin far
+    matchIn matchAll answerFor seedOf entriesFrom anyEntryOutside anyIndexOutside radiusListing inRadius usable within gather planeWithin far
     frameIn frameOf near scaleOf radius frameOn localPoint momentsOf addPoints addPoint divisor mean atLeastNought root wholeRoot rootDigits narrow widen units div ofInt
 examples =
     record {
       one = refl;
+      one-count = refl;
       one-coords = refl;
       two = refl;
       three = refl;
       four = refl;
+      four-matched = refl;
       five = refl;
       six = refl;
       seven = refl;

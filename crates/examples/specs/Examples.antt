@@ -8,17 +8,17 @@ use lib.IntN.{pos, negsuc}
 use lib.Ieee.{Float, nan, fin}
 use Rattle.bits.specs.Constants.{nought, infinite}
 use Rattle.space.specs.declared.Point3f.{Point3f}
-use Rattle.tree.specs.Refuse.{Outcome, gives, returned, left}
+use Rattle.tree.specs.Refuse.{Outcome, gives, returned, left, noMatch}
 use Rattle.build.specs.Entries.{building}
 use Rattle.search.specs.declared.Nearest.{Nearest}
 use Rattle.search.specs.declared.Nearest.the-variants.{Found, Nothing}
 use Rattle.search.specs.Search.{bounded, unbounded}
-use Rattle.lists.specs.Entry.{Entry, indicesIn, squaresIn}
+use Rattle.lists.specs.Entry.{indicesIn, squaresIn}
 use Rattle.lists.specs.Entries.{nearestListing}
-use Rattle.lists.specs.Radius.{inRadius}
-use Rattle.tree.specs.Part.{lent}
+use Rattle.radius.specs.Entries.{radiusListing}
 use Rattle.matching.specs.declared.Limit.the-variants.{At}
 use Rattle.matching.specs.Limit.{boundOf}
+use Rattle.matching.specs.Matching.{matchIn}
 use Rattle.sums.specs.declared.Vector3d.{Vector3d}
 use Rattle.frame.specs.declared.LocalFrame.{LocalFrame}
 use Rattle.frame.specs.Entries.{frameIn}
@@ -76,6 +76,7 @@ places4 = 9 ∷ 9 ∷ 9 ∷ 9 ∷ []
 pub record Examples : Type 0 where
   -- 1. K builds to indices 3, 1, 0, 2.
   pub one : left (λ w. w .indices) places4 (building cloudK room12 places4) ≡ indicesK
+  pub one-count : returned (λ w. w .slots) (building cloudK room12 places4) ≡ gives 4
   pub one-coords : left (λ w. w .coords) room12 (building cloudK room12 places4) ≡ coordsK
   -- 2. (1,1,0), bound infinity: index 0, distance 1.
   pub two : bounded coordsK indicesK (at one1 one1) infinite Nothing ≡ gives (Found 0 one1)
@@ -83,6 +84,7 @@ pub record Examples : Type 0 where
   pub three : bounded coordsK indicesK (at one1 one1) one1 Nothing ≡ gives Nothing
   -- 4. (1,1,0), limit 1: index 0.
   pub four : bounded coordsK indicesK (at one1 one1) (boundOf (At one1)) Nothing ≡ gives (Found 0 one1)
+  pub four-matched : matchIn (one1 ∷ one1 ∷ nought ∷ []) cloudK coordsK indicesK (At one1) (noMatch ∷ []) ≡ gives (0 ∷ [])
   -- 5. (0.5,0,0): index 0, 0.25.
   pub five : unbounded coordsK indicesK (at half½ nought) ≡ gives (Found 0 quarter)
   -- 6. (0.5,0,0), seed 1 at 0.25: index 1.
@@ -93,7 +95,7 @@ pub record Examples : Type 0 where
   pub eight : returned indicesIn (nearestListing coordsK indicesK (at one1 one1) 4 places4 room4) ≡ gives (0 ∷ 2 ∷ 1 ∷ 3 ∷ [])
   pub eight-squares : returned squaresIn (nearestListing coordsK indicesK (at one1 one1) 4 places4 room4) ≡ gives (one1 ∷ two2 ∷ two2 ∷ seventeen ∷ [])
   -- 9. (1,1,0), radius 1.5: 0, 2, 1.
-  pub nine : indicesIn (inRadius (at one1 one1) oneAndHalf (lent coordsK indicesK)) ≡ 0 ∷ 2 ∷ 1 ∷ []
+  pub nine : returned indicesIn (radiusListing coordsK indicesK (at one1 one1) oneAndHalf places4 room4) ≡ gives (0 ∷ 2 ∷ 1 ∷ [])
   -- 10. Limit 0: bound 2^-149.
   pub ten : boundOf (At nought) ≡ fin false 1 (negsuc 148)
   -- 11. Cloud x = 99 and 101 (y = z = 0): no frame.

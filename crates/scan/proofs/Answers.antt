@@ -8,8 +8,9 @@ use lib.Ieee.{Float}
 use Rattle.tree.specs.Refuse.{Outcome, refused, gives, overwrite}
 use Rattle.scan.specs.Input.{Counts, header, numbers}
 use Rattle.scan.specs.Program.{matchesOf, report, refusal, answered, program}
-use Rattle.scan.specs.Promises.{Puts, Answers}
-use Rattle.scan.proofs.Stores.{puts-front}
+use Rattle.text.specs.Puts.{Puts}
+use Rattle.scan.specs.Promises.{Answers}
+use Rattle.text.proofs.Stores.{puts-front}
 
 module _ (B : List ℕ) where
   pub answers : {o : Outcome Counts} {out : List ℕ} {r : ℕ} {out′ : List ℕ} → o ≡ header B → Puts (answered B o) 0 out r out′ → Answers B out r out′

@@ -2,13 +2,13 @@
 use Prim.Native.Nat.{ℕ, zero, suc, _+_, _-_, _*_, _≤_, _<_}
 use native.Mathlib.Omega.{arith}
 use mathlib.Core.Path.{_≡_, refl, sym, ap, _∙_}
-use mathlib.Core.Bool.{not, _||_}
+use mathlib.Core.Bool.{Bool, true, false, not, _||_}
 use mathlib.Core.List.{List, _∷_}
 use lib.Dec.{ltb, eqb}
 use lib.ListN.{length, set, take, replicate, length-replicate}
 use lib.Seq.{sets, take-at}
 use lib.Ieee.{Float, binary32, ofBits}
-use borrow.Author.Tests.{lt-ltb, le-ltb, eq-eqb, ne-eqb}
+use borrow.Author.Tests.{lt-ltb, le-ltb, eq-eqb, ne-eqb, eqb-true}
 use Rattle.tree.specs.Refuse.{Outcome, refused, gives, refuse, noMatch, overwrite}
 use Rattle.scan.specs.Input.{word, numbers, mostRead, Counts, header}
 use Rattle.scan.specs.Promises.{Counted, Ready, Unseeded}
@@ -31,6 +31,12 @@ pub header-short : (B : List ℕ) → length B < 16 → refused 1 ≡ header B
 unfolding header
 header-short B h = rw (lt-ltb _ _ h)
 
+pub one-wrong : (a b c : Bool) → (a ≡ true → b ≡ true → c ≡ true → ⊥) → (not a || not b || not c) ≡ true
+one-wrong true true true h = absurd (h refl refl refl)
+one-wrong true true false h = refl
+one-wrong true false c h = refl
+one-wrong false b c h = refl
+
 module _ (n s p t q : ℕ) (long : 16 ≤ n) where
   pub many-sources : 1024 < s → refused 2 ≡ ruled n s p t q
   many-sources a = rw (le-ltb _ _ long, lt-ltb _ _ a)
@@ -48,19 +54,14 @@ module _ (n s p t q : ℕ) (long : 16 ≤ n) where
         no-target a = rw (le-ltb _ _ long, le-ltb _ _ few-s, le-ltb _ _ few-t, ne-eqb _ _ some-s, eq-eqb _ _ a)
 
         module _ (some-t : t ≡ 0 → ⊥) where
-          pub source-elsewhere : (p ≡ 16 → ⊥) → refused 1 ≡ ruled n s p t q
-          source-elsewhere a = rw (le-ltb _ _ long, le-ltb _ _ few-s, le-ltb _ _ few-t, ne-eqb _ _ some-s, ne-eqb _ _ some-t, ne-eqb _ _ a)
+          -- an offset or the length is another
+          pub elsewhere : (p ≡ 16 → q ≡ 16 + 12 * s → n ≡ 16 + 12 * s + 12 * t → ⊥) → refused 1 ≡ ruled n s p t q
+          elsewhere a =
+              rw (le-ltb _ _ long, le-ltb _ _ few-s, le-ltb _ _ few-t, ne-eqb _ _ some-s, ne-eqb _ _ some-t, one-wrong _ _ _ λ e f g. a (eqb-true _ _ e) (eqb-true _ _ f) (eqb-true _ _ g))
 
-          module _ (here : p ≡ 16) where
-            pub target-elsewhere : (q ≡ 16 + 12 * s → ⊥) → refused 1 ≡ ruled n s p t q
-            target-elsewhere a = rw (le-ltb _ _ long, le-ltb _ _ few-s, le-ltb _ _ few-t, ne-eqb _ _ some-s, ne-eqb _ _ some-t, eq-eqb _ _ here, ne-eqb _ _ a)
-
-            module _ (there : q ≡ 16 + 12 * s) where
-              pub another-length : (n ≡ 16 + 12 * s + 12 * t → ⊥) → refused 1 ≡ ruled n s p t q
-              another-length a = rw (le-ltb _ _ long, le-ltb _ _ few-s, le-ltb _ _ few-t, ne-eqb _ _ some-s, ne-eqb _ _ some-t, eq-eqb _ _ here, eq-eqb _ _ there, ne-eqb _ _ a)
-
-              pub all-right : n ≡ 16 + 12 * s + 12 * t → gives (record { source = s; target = t }) ≡ ruled n s p t q
-              all-right a = rw (le-ltb _ _ long, le-ltb _ _ few-s, le-ltb _ _ few-t, ne-eqb _ _ some-s, ne-eqb _ _ some-t, eq-eqb _ _ here, eq-eqb _ _ there, eq-eqb _ _ a)
+          pub all-right : p ≡ 16 → q ≡ 16 + 12 * s → n ≡ 16 + 12 * s + 12 * t → gives (record { source = s; target = t }) ≡ ruled n s p t q
+          all-right e f g =
+              rw (le-ltb _ _ long, le-ltb _ _ few-s, le-ltb _ _ few-t, ne-eqb _ _ some-s, ne-eqb _ _ some-t, eq-eqb _ _ e, eq-eqb _ _ f, eq-eqb _ _ g)
 
 -- ---- the numbers
 
@@ -99,11 +100,8 @@ no-matches zero k h = refl
 no-matches (suc n) zero h = absurd (omega arith)
 no-matches (suc n) (suc k) h = ap (λ (l : List ℕ). noMatch ∷ l) (no-matches n k (omega arith))
 
-pub is-ready : (B : List ℕ) (s t : ℕ) {bytes : ℕ} {S T : List Float} {M : List ℕ} → Counted s t bytes → S ≡ numbers B 16 (3 * s) → T ≡ numbers B (16 + 12 * s) (3 * t)
-    → M ≡ replicate s noMatch → Ready S T M × Unseeded M
-is-ready B s t {bytes} {S} {T} {M} c eS eT eM =
-    let lS : length S ≡ 3 * s = ap length eS ∙ numbers-length B 16 (3 * s) in
-    let lT : length T ≡ 3 * t = ap length eT ∙ numbers-length B (16 + 12 * s) (3 * t) in
+pub is-ready : (s t : ℕ) {bytes : ℕ} {S T : List Float} {M : List ℕ} → Counted s t bytes → 3 * s ≡ length S → 3 * t ≡ length T → M ≡ replicate s noMatch → Ready S T M × Unseeded M
+is-ready s t {bytes} {S} {T} {M} c lS lT eM =
     let lM : length M ≡ s = ap length eM ∙ length-replicate s noMatch in (
       record {
         each = omega arith;

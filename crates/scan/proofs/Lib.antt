@@ -1,5 +1,4 @@
-pub mod Stores
-pub mod Texts
+pub mod Lengths
 pub mod Inputs
 pub mod Trees
 pub mod Entries

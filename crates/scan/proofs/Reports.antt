@@ -25,7 +25,8 @@ use Rattle.sums.specs.Sums.{sums}
 use Rattle.sums.specs.Stats.{mse}
 use Rattle.scan.specs.Input.{mostRead}
 use Rattle.scan.specs.Program.{reportLines, report}
-use Rattle.scan.specs.Promises.{side, Ready, Puts}
+use Rattle.text.specs.Puts.{Puts}
+use Rattle.scan.specs.Promises.{side, Ready}
 
 -- ---- the pair list
 

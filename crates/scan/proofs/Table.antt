@@ -9,6 +9,7 @@ use Rattle.bits.specs.Convert.{widen, narrow}
 use Rattle.bits.specs.Finite.{finite}
 use Rattle.bits.specs.Key.{key}
 use Rattle.space.specs.Distance.{apart, leftIsNear, distanceSquared}
+use Rattle.tree.specs.Refuse.{refused, gives}
 use Rattle.tree.specs.Slots.{rank, slots, numbersOf, indicesOf}
 use Rattle.tree.specs.Sort.{sort, insert}
 use Rattle.tree.specs.Part.{laid, partOf, lent}
@@ -19,11 +20,14 @@ use Rattle.search.specs.Search.{walked, searched}
 use Rattle.matching.specs.Limit.{boundOf}
 use Rattle.matching.specs.Entries.{entriesFrom}
 use Rattle.matching.specs.Matching.{seedOf, answerFor, matchAll}
-use Rattle.matching.specs.Pairs.{pairsFrom, pairs}
+use Rattle.matching.specs.Pairs.{pair, pairsFrom, pairs}
 use Rattle.sums.specs.Stats.{addPair, mergeSums, mse}
 use Rattle.sums.specs.Sums.{addEntry, addEntries, cut, addRuns, sumsBy, sums}
 use Rattle.scan.specs.Input.{word, numbers, header}
-use Rattle.scan.specs.Text.{letter, digits, places, decimal, hex8}
+use Rattle.text.specs.Text.{letter, digits, places, decimal, hex8}
+use Rattle.scan.specs.declared.input.Header as H
+use Rattle.scan.specs.Cases.{headerOf}
+use Rattle.scan.specs.Promises.{side, Answers}
 use Rattle.scan.specs.Program.{matchesOf, countLine, pairLine, pairLines, mseLine, reportLines, report, refusal, answered, program}
 
 -- ---- inputs
@@ -96,6 +100,13 @@ record Table : Type 0 where
   -- pairs in source order, one of three points without a match; the MSE is 1/2
   in-order : program (head 3 16 2 52 ++ point 0 0 #1 ++ point 0 notANumber 0 ++ point #5 0 0 ++ point #5 0 0 ++ point 0 0 0)
       ≡ pairsText 50 ++ (48 ∷ 32 ∷ 49 ∷ 10 ∷ 50 ∷ 32 ∷ 48 ∷ 10 ∷ []) ++ mseText 51 102 48
+  -- "without limit or seeds": of two targets as near, the one that comes first in near-first order, index 1
+  no-seeds : program (head 1 16 2 28 ++ point 0x3f00_0000 0 0 ++ point #1 0 0 ++ point 0 0 0) ≡ pairsText 49 ++ (48 ∷ 32 ∷ 49 ∷ 10 ∷ []) ++ mseText 51 101 56
+  -- what the function promises: how many bytes, and what is beyond them
+  promised : Answers [] (7 ∷ 7 ∷ 7 ∷ 7 ∷ 7 ∷ 7 ∷ 7 ∷ 7 ∷ 7 ∷ 7 ∷ 7 ∷ 8 ∷ []) 10 (refusedText 49 ++ 7 ∷ 8 ∷ [])
+  -- the cases of the header, and sources and targets side by side
+  cases : (headerOf (H.the-variants.Points 1 2) ≡ gives (record { source = 1; target = 2 })) × (headerOf (H.the-variants.Refused 4) ≡ refused 4)
+  sides : side (0 ∷ 2 ∷ []) (5 ∷ 6 ∷ 7 ∷ []) ≡ pair 0 5 ∷ pair 2 6 ∷ []
   -- numbers as text: 0, 9, 10, 1024, the largest u32; hexadecimal 0012cdef
   nought-written : decimal 0 ≡ 48 ∷ []
   nine-written : decimal 9 ≡ 57 ∷ []
@@ -105,7 +116,7 @@ record Table : Type 0 where
   hex-written : hex8 0x0012_cdef ≡ 48 ∷ 48 ∷ 49 ∷ 50 ∷ 99 ∷ 100 ∷ 101 ∷ 102 ∷ []
 
 table : Table
-unfolding program answered header word numbers refusal report reportLines countLine pairLines pairLine mseLine decimal hex8 digits places letter matchesOf matchAll answerFor seedOf entriesFrom boundOf searched walked walk lent partOf slots apart leftIsNear distanceSquared treeOf indexed finiteFrom finitePoint points finite grow sort insert rank key laid numbersOf indicesOf pairs pairsFrom sums sumsBy cut addRuns addEntries addEntry addPair mergeSums mse widen narrow ofBits ofFields toBits size lt le eq add sub mul div neg sum round units odd ofInt
+unfolding program answered side header word numbers refusal report reportLines countLine pairLines pairLine mseLine decimal hex8 digits places letter matchesOf matchAll answerFor seedOf entriesFrom boundOf searched walked walk lent partOf slots apart leftIsNear distanceSquared treeOf indexed finiteFrom finitePoint points finite grow sort insert rank key laid numbersOf indicesOf pairs pairsFrom sums sumsBy cut addRuns addEntries addEntry addPair mergeSums mse widen narrow ofBits ofFields toBits size lt le eq add sub mul div neg sum round units odd ofInt
 table =
     record {
       example = refl;
@@ -123,6 +134,10 @@ table =
       right = refl;
       unmatched = refl;
       in-order = refl;
+      no-seeds = refl;
+      promised = record { returns = refl; written = refl };
+      cases = (refl, refl);
+      sides = refl;
       nought-written = refl;
       nine-written = refl;
       ten-written = refl;

@@ -1,5 +1,5 @@
 pub mod Input
-pub mod Text
+pub mod Words
 pub mod Program
 pub mod Cases
 pub mod Promises

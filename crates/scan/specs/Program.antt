@@ -14,7 +14,8 @@ use Rattle.matching.specs.Pairs.{Pair, pairs}
 use Rattle.sums.specs.Stats.{mse}
 use Rattle.sums.specs.Sums.{sums}
 use Rattle.scan.specs.Input.{Counts, header, sourceOf, targetOf}
-use Rattle.scan.specs.Text.{decimal, hex8, pairsWord, mseWord, refusedWord, blank, lineEnd}
+use Rattle.text.specs.Text.{decimal, hex8}
+use Rattle.scan.specs.Words.{pairsWord, mseWord, refusedWord, blank, lineEnd}
 
 -- "It matches without limit or seeds": the match list of the source in the tree of the target
 unfoldable pub matchesOf : List Float → List Float → List ℕ

@@ -1,22 +1,15 @@
--- What is written into lent bytes, and what the function promises; by `proofs/Determined.antt` that fixes its result and every lent byte. Definitions only.
+-- What is known between the functions, and what the function promises; by `proofs/Determined.antt` that fixes its result and every lent byte. Definitions only.
 use mathlib.Core.Path.{_≡_}
 use Prim.Native.Nat.{ℕ, _+_, _*_, _≤_, _<_}
 use mathlib.Core.List.{List, [], _∷_}
-use lib.ListN.{length, replicate}
+use lib.ListN.{length, take, replicate}
 use lib.Ieee.{Float}
-use lib.Seq.{sets}
 use Rattle.tree.specs.Refuse.{count, noMatch, overwrite}
 use Rattle.matching.specs.Pairs.{Pair, pair}
 use Rattle.scan.specs.declared.input.Header.{Header}
 use Rattle.scan.specs.declared.input.Header.the-variants.{Refused, Points}
 use Rattle.scan.specs.Input.{mostRead}
 use Rattle.scan.specs.Program.{program}
-
--- a text is written from place `at` on, where there is room; the result is the place behind it
-pub record Puts (text : List ℕ) (at : ℕ) (out : List ℕ) (r : ℕ) (out′ : List ℕ) : Type 0 where
-  pub fits : at + length text ≤ length out
-  pub end : r ≡ at + length text
-  pub list : out′ ≡ sets out at text
 
 -- sources and targets, side by side
 unfoldable pub side : List ℕ → List ℕ → List Pair
@@ -53,3 +46,8 @@ Unseeded matches = matches ≡ replicate (length matches) noMatch
 pub record Answers (input out : List ℕ) (r : ℕ) (out′ : List ℕ) : Type 0 where
   pub returns : r ≡ length (program input)
   pub written : out′ ≡ overwrite (program input) out
+
+-- `answer_read`: it answers what was read, and by that every input of which this is what fits into the lent bytes
+pub record AnswersRead (bytes : List ℕ) (n : ℕ) (out : List ℕ) (r : ℕ) (out′ : List ℕ) : Type 0 where
+  pub front : Answers (take n bytes) out r out′
+  pub whole : (input : List ℕ) → take n bytes ≡ take (length bytes) input → Answers input out r out′

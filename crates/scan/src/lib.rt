@@ -1,6 +1,6 @@
 // The matching program, as one function from the bytes of its input to the bytes of its output.
 mod input;
-mod text;
+mod lines;
 
 use build::Built;
 use input::Header;
@@ -14,10 +14,11 @@ ghost use mathlib.Core.Bool.{false};
 ghost use Prim.Native.Nat.{_+_, _*_, _≤_};
 ghost use lib.ListN.{length};
 ghost use Rattle.tree.specs.Refuse.{gives, count, anyEntryOutside};
+ghost use Rattle.text.specs.Puts.{Puts};
 ghost use Rattle.scan.specs.Program.{matchesOf, report, answered};
-ghost use Rattle.scan.specs.Promises.{Puts, Counted, Ready, Unseeded, Answers};
+ghost use Rattle.scan.specs.Promises.{Counted, Ready, Unseeded, Answers, AnswersRead};
 
-// Bytes of the longest input, and of one that is refused for its length.
+// One byte more than the longest input has.
 pub const IN: usize = 24593;
 
 // Bytes in which every output has room.
@@ -58,7 +59,7 @@ fn write_report(source: &[f32], target: &[f32], matches: &[u32], out: &mut [u8])
     let Collected::Sums(stats) = CorrespondenceStats::collect(source, target, matches) else {
         return 0;
     };
-    text::put_report(out, &sources[..n], &targets[..n], stats.mse())
+    lines::put_report(out, &sources[..n], &targets[..n], stats.mse())
 }
 
 fn match_and_write(source: &[f32], target: &[f32], matches: &mut [u32], out: &mut [u8]) -> usize
@@ -89,7 +90,19 @@ pub fn answer(bytes: &[u8], out: &mut [u8; OUT]) -> usize
     ensures { λ r. ⌜ Answers (now (bytes .entry)) (now (out .entry)) r (now (out .exit)) ⌝ }
 {
     match input::read_header(bytes) {
-        Header::Refused(number) => text::put_refusal(out, number),
+        Header::Refused(number) => lines::put_refusal(out, number),
         Header::Points(sources, targets) => report(bytes, sources, targets, out),
+    }
+}
+
+// The same from the first n of the lent bytes, into which an input was read: one that filled them may go on, and its answer is known all the same.
+pub fn answer_read(bytes: &[u8; IN], n: usize, out: &mut [u8; OUT]) -> usize
+    ensures { λ r. ⌜ AnswersRead (now (bytes .entry)) n (now (out .entry)) r (now (out .exit)) ⌝ }
+{
+    let all: &[u8] = bytes;
+    if n < all.len() {
+        answer(&all[..n], out)
+    } else {
+        answer(all, out)
     }
 }

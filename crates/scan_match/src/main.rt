@@ -6,6 +6,6 @@ fn main() {
     let mut bytes = [0u8; scan::IN];
     let mut out = [0u8; scan::OUT];
     let n = io::read_full(STDIN_FILENO, &mut bytes);
-    let k = scan::answer(&bytes[..n], &mut out);
+    let k = scan::answer_read(&bytes, n, &mut out);
     io::write_all(STDOUT_FILENO, &out[..k]);
 }

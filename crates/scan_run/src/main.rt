@@ -1,4 +1,4 @@
-// The matching program's function run on inputs that are refused, on the longest one and on one byte more: what is written is compared with the file `stdout`.
+// The matching program's function run on inputs that are refused, on single pairs at the edges of the numbers, on the longest input and on one byte more: what is written is compared with the file `stdout`.
 use libc::STDOUT_FILENO;
 
 // Writes what the program would write.
@@ -48,6 +48,15 @@ fn show_points(source_at: u32, target_at: u32, read: usize) {
     let mut bytes = [0u8; 41];
     put_header(&mut bytes, 1, source_at, 1, target_at);
     show_front(&bytes, read);
+}
+
+// One point in each cloud, by the bits of its first coordinate.
+fn show_pair(source: u32, target: u32) {
+    let mut bytes = [0u8; 40];
+    put_header(&mut bytes, 1, 16, 1, 28);
+    put_word(&mut bytes, 16, source);
+    put_word(&mut bytes, 28, target);
+    show(&bytes);
 }
 
 // The next number of a sequence.
@@ -101,5 +110,14 @@ fn main() {
     show_points(16, 28, 39);
     show_points(16, 28, 41);
     show_points(16, 28, 40);
+    show_points(28, 16, 40);
+    show_points(16, 28, 16);
+    show_pair(0x7fc0_0000, 0);
+    show_pair(0, 0x7fc0_0000);
+    show_pair(0xff80_0000, 0xff80_0000);
+    show_pair(0x7f7f_ffff, 0);
+    show_pair(0xdf7f_ffff, 0x8000_0000);
+    show_pair(0x1a00_0000, 0);
+    show_pair(0x1a80_0000, 0);
     show_longest();
 }

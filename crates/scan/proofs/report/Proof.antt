@@ -40,7 +40,7 @@ slice-aggregate-match-and-write : tie.Need-slice-aggregate-match-and-write
 slice-aggregate-match-and-write c =
     let u = c .before .before .before .before .before in
     let a = u .before .before .before .before in
-    front-length (a .args .bytes .now) 16 (3 * a .args .sources) _ _ (u .read-numbers .ensures)
+    front-length (a .args .bytes .now) _ (3 * a .args .sources) _ _ (u .read-numbers .ensures)
 
 array-share-prefix-target : tie.Need-array-share-prefix-target
 array-share-prefix-target c = search needs
@@ -49,7 +49,7 @@ slice-aggregate-match-and-write-2 : tie.Need-slice-aggregate-match-and-write-2
 slice-aggregate-match-and-write-2 c =
     let v = c .before .before .before in
     let a = v .before .before .before .before .before .before .before in
-    front-length (a .args .bytes .now) (16 + 12 * a .args .sources) (3 * a .args .targets) _ _ (v .read-numbers2 .ensures)
+    front-length (a .args .bytes .now) _ (3 * a .args .targets) _ _ (v .read-numbers2 .ensures)
 
 array-borrow-prefix-matches : tie.Need-array-borrow-prefix-matches
 array-borrow-prefix-matches c = search needs
@@ -64,7 +64,7 @@ match-and-write-requires c κs =
     let v = c .before .before .before .before .before in
     let u = v .before .before .before in
     let a = u .before .before .before .before in
-    let r = is-ready (a .args .bytes .now) (a .args .sources) (a .args .targets) (a .pre .0) (numbers-front (a .args .bytes .now) 16 (3 * a .args .sources) _ _ (u .read-numbers .ensures)) (numbers-front (a .args .bytes .now) (16 + 12 * a .args .sources) (3 * a .args .targets) _ _ (v .read-numbers2 .ensures)) (no-matches (a .args .sources) 1024 (a .pre .0 .few-sources)) in
+    let r = is-ready (a .args .sources) (a .args .targets) (a .pre .0) (front-length (a .args .bytes .now) _ (3 * a .args .sources) _ _ (u .read-numbers .ensures)) (front-length (a .args .bytes .now) _ (3 * a .args .targets) _ _ (v .read-numbers2 .ensures)) (no-matches (a .args .sources) 1024 (a .pre .0 .few-sources)) in
     (r .0, r .1, a .pre .1)
 
 same-length : tie.Need-same-length
@@ -75,7 +75,7 @@ returns c =
     let v = c .before .before .before .before .before .before .before .before .before in
     let u = v .before .before .before in
     let a = u .before .before .before .before in
-    reports (a .args .bytes .now) (a .args .sources) (a .args .targets) (numbers-front (a .args .bytes .now) 16 (3 * a .args .sources) _ _ (u .read-numbers .ensures)) (numbers-front (a .args .bytes .now) (16 + 12 * a .args .sources) (3 * a .args .targets) _ _ (v .read-numbers2 .ensures))
+    reports (a .args .bytes .now) (a .args .sources) (a .args .targets) (numbers-front (a .args .bytes .now) _ (3 * a .args .sources) _ _ (u .read-numbers .ensures)) (numbers-front (a .args .bytes .now) _ (3 * a .args .targets) _ _ (v .read-numbers2 .ensures))
     (c .before .before .before .match-and-write .ensures)
 
 pub report-spec : {M : Type 1} → statement M

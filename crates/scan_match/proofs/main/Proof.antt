@@ -1,4 +1,4 @@
--- `main`: the bytes that `answer` counts stand in its buffer.
+-- `main`: the bytes that `answer_read` counts stand in its buffer.
 use mathlib.Core.Path.{sym}
 use lib.Seq.{length-take-le}
 use borrow.Author.Needs.{needs}
@@ -12,20 +12,14 @@ slice-aggregate-read-full c = search needs
 read-full-requires : tie.Need-read-full-requires
 read-full-requires c κs = search needs
 
-array-share-prefix-bytes : tie.Need-array-share-prefix-bytes
-array-share-prefix-bytes c = search needs
-
-slice-aggregate-answer : tie.Need-slice-aggregate-answer
-slice-aggregate-answer c = search needs
-
-answer-requires : tie.Need-answer-requires
-answer-requires c κs = search needs
+answer-read-requires : tie.Need-answer-read-requires
+answer-read-requires c κs = search needs
 
 array-share-prefix-out : tie.Need-array-share-prefix-out
-array-share-prefix-out c = answer-fits (c .answer .ensures)
+array-share-prefix-out c = answer-fits (c .answer-read .ensures .front)
 
 slice-aggregate-write-all : tie.Need-slice-aggregate-write-all
-slice-aggregate-write-all c = sym (length-take-le _ _ (answer-fits (c .before .answer .ensures)))
+slice-aggregate-write-all c = sym (length-take-le _ _ (answer-fits (c .before .answer-read .ensures .front)))
 
 write-all-requires : tie.Need-write-all-requires
 write-all-requires c κs = search needs
@@ -39,9 +33,7 @@ main-spec =
     (tie.spec
     slice-aggregate-read-full
     read-full-requires
-    array-share-prefix-bytes
-    slice-aggregate-answer
-    answer-requires
+    answer-read-requires
     array-share-prefix-out
     slice-aggregate-write-all
     write-all-requires

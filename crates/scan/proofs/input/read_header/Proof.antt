@@ -2,7 +2,7 @@
 use native.Mathlib.Omega.{arith}
 use borrow.Author.Needs.{needs}
 use lib.ListN.{length}
-use Rattle.scan.proofs.Inputs.{header-ruled, header-short, many-sources, many-targets, no-source, no-target, source-elsewhere, target-elsewhere, another-length, all-right}
+use Rattle.scan.proofs.Inputs.{header-ruled, header-short, many-sources, many-targets, no-source, no-target, elsewhere, all-right}
 use Rattle.scan.proofs.input.read_header.Statement.{statement}
 use Rattle.scan.proofs.input.read_header.Tie as tie
 
@@ -78,8 +78,8 @@ returns-6 c =
     let w = c .before .before .before .before .before in
     let B = w .before .before .before .before .before .before .args .bytes .now in (
       header-ruled B (w .before .before .before .word .ensures) (w .before .before .word2 .ensures) (w .before .word3 .ensures) (w .word4 .ensures)
-          (source-elsewhere (length B) (w .before .before .before .word .result) (w .before .before .word2 .result) (w .before .word3 .result) (w .word4 .result)
-          (w .before .before .before .before .if1 .left) (c .before .before .before .before .if2 .left) (c .before .before .before .if3 .left) (c .before .before .if4 .left) (c .before .if5 .left) (c .if6 .taken)),
+          (elsewhere (length B) (w .before .before .before .word .result) (w .before .before .word2 .result) (w .before .word3 .result) (w .word4 .result)
+          (w .before .before .before .before .if1 .left) (c .before .before .before .before .if2 .left) (c .before .before .before .if3 .left) (c .before .before .if4 .left) (c .before .if5 .left) (λ e f g. omega (arith, e, c .if6 .taken))),
       tt,
     )
 
@@ -94,8 +94,8 @@ returns-7 c =
     let w = c .before .before .before .before .before .before in
     let B = w .before .before .before .before .before .before .args .bytes .now in (
       header-ruled B (w .before .before .before .word .ensures) (w .before .before .word2 .ensures) (w .before .word3 .ensures) (w .word4 .ensures)
-          (target-elsewhere (length B) (w .before .before .before .word .result) (w .before .before .word2 .result) (w .before .word3 .result) (w .word4 .result)
-          (w .before .before .before .before .if1 .left) (c .before .before .before .before .before .if2 .left) (c .before .before .before .before .if3 .left) (c .before .before .before .if4 .left) (c .before .before .if5 .left) (c .before .if6 .left) (c .if7 .taken)),
+          (elsewhere (length B) (w .before .before .before .word .result) (w .before .before .word2 .result) (w .before .word3 .result) (w .word4 .result)
+          (w .before .before .before .before .if1 .left) (c .before .before .before .before .before .if2 .left) (c .before .before .before .before .if3 .left) (c .before .before .before .if4 .left) (c .before .before .if5 .left) (λ e f g. omega (arith, f, c .if7 .taken))),
       tt,
     )
 
@@ -110,8 +110,8 @@ returns-8 c =
     let w = c .before .before .before .before .before .before .before in
     let B = w .before .before .before .before .before .before .args .bytes .now in (
       header-ruled B (w .before .before .before .word .ensures) (w .before .before .word2 .ensures) (w .before .word3 .ensures) (w .word4 .ensures)
-          (another-length (length B) (w .before .before .before .word .result) (w .before .before .word2 .result) (w .before .word3 .result) (w .word4 .result)
-          (w .before .before .before .before .if1 .left) (c .before .before .before .before .before .before .if2 .left) (c .before .before .before .before .before .if3 .left) (c .before .before .before .before .if4 .left) (c .before .before .before .if5 .left) (c .before .before .if6 .left) (c .before .if7 .left) (c .if8 .taken)),
+          (elsewhere (length B) (w .before .before .before .word .result) (w .before .before .word2 .result) (w .before .word3 .result) (w .word4 .result)
+          (w .before .before .before .before .if1 .left) (c .before .before .before .before .before .before .if2 .left) (c .before .before .before .before .before .if3 .left) (c .before .before .before .before .if4 .left) (c .before .before .before .if5 .left) (λ e f g. omega (arith, g, c .if8 .taken))),
       tt,
     )
 
@@ -121,7 +121,7 @@ returns-9 c =
     let B = w .before .before .before .before .before .before .args .bytes .now in (
       header-ruled B (w .before .before .before .word .ensures) (w .before .before .word2 .ensures) (w .before .word3 .ensures) (w .word4 .ensures)
           (all-right (length B) (w .before .before .before .word .result) (w .before .before .word2 .result) (w .before .word3 .result) (w .word4 .result)
-          (w .before .before .before .before .if1 .left) (c .before .before .before .before .before .before .if2 .left) (c .before .before .before .before .before .if3 .left) (c .before .before .before .before .if4 .left) (c .before .before .before .if5 .left) (c .before .before .if6 .left) (c .before .if7 .left) (c .if8 .left)),
+          (w .before .before .before .before .if1 .left) (c .before .before .before .before .before .before .if2 .left) (c .before .before .before .before .before .if3 .left) (c .before .before .before .before .if4 .left) (c .before .before .before .if5 .left) (omega (arith, c .before .before .if6 .left)) (omega (arith, c .before .if7 .left)) (omega (arith, c .if8 .left))),
       record { some-sources = omega arith; few-sources = omega arith; some-targets = omega arith; few-targets = omega arith; whole = omega arith },
     )
 

@@ -6,7 +6,7 @@ use lib.ListN.{length, length-set}
 use lib.Seq.{sets}
 use lib.Ieee.{binary32, ofBits}
 use Rattle.scan.specs.Input.{word, numbers}
-use Rattle.scan.proofs.Stores.{sets-front}
+use Rattle.text.proofs.Stores.{sets-front}
 use Rattle.scan.proofs.Inputs.{numbers-length, one-number, no-number}
 use Rattle.scan.proofs.input.read_numbers.Statement.{statement}
 use Rattle.scan.proofs.input.read_numbers.Tie as tie

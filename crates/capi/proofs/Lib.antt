@@ -1,0 +1,6 @@
+pub mod Room
+pub mod Counts
+pub mod Telling
+pub mod Codes
+pub mod Determined
+pub mod Table

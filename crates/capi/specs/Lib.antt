@@ -1,0 +1,4 @@
+pub mod Codes
+pub mod Arguments
+pub mod Answers
+pub mod Promises

@@ -1,15 +1,17 @@
 //! Cases made from a seed, with the answers of the given Rust, as a stream of u32 words.
 //!
 //! Stream: [MAGIC, number of cases], then the cases.
-//! Tree    [1, n, m, layout, nq], 3n cloud words, m slot indices when layout = 1, then nq queries:
+//! Tree    [1, layout, nq, n], 3n cloud words; m; m slot indices when layout = 1; then nq queries:
 //!         [op, qx, qy, qz, arg, seed index, seed distance, c] and c times [index, distance];
 //!         op 1 bounded (arg: bound), 2 k nearest with squares (arg: k), 3 k nearest with roots,
-//!         4 radius with roots (arg: radius)
-//! Match   [2, ns, nt, limited, limit, bound], 3ns, 3nt, ns seeds; ns entries;
-//!         [pairs, comparable, count], 16 f64 as low and high word (p, q, pq by rows, error); [mse]
-//! Scale   [3, n, frame], 3n; centroid 3, radius 1; when frame = 1: origin 3 f64, locals 3n
+//!         4 radius with roots (arg: radius), 5 unbounded
+//! Match   [2, limited, limit, bound, ns, nt], 3ns, 3nt, ns seeds; ns entries; the number of pairs and
+//!         so many [source, target]; [comparable, count]; when comparable = 1: 16 f64 (p, q, pq by rows, error), mse
+//! Scale   [3, n], 3n; centroid 3, radius; origin of the centred frame 3 f64; whether there is a frame if far;
+//!         when there is: origin 3 f64, locals 3n
 //! Limit   [4, n], n times [limited, limit, bound]
-//! 0xffffffff is none; an index 0xfffffffe is any: the Rust fixes none there (equal distances).
+//! An f64 is its low and its high word. 0xffffffff is none; an index 0xfffffffe is any: the Rust fixes none there
+//! (equal distances).
 use std::collections::HashMap;
 use threecrate_algorithms::{
     nearest_neighbor::KdTree,
@@ -17,7 +19,7 @@ use threecrate_algorithms::{
 };
 use threecrate_core::{NearestNeighborSearch, Point3f};
 
-pub const MAGIC: u32 = 0x3154_444b;
+pub const MAGIC: u32 = 0x3254_444b;
 pub const NONE: u32 = u32::MAX;
 pub const ANY: u32 = u32::MAX - 1;
 
@@ -164,13 +166,89 @@ fn seen(c: &[Point3f], q: &Point3f, root: bool, layout: bool) -> HashMap<u32, u3
     m
 }
 
+/// What was written, by entry: how many calls of each, and how many values and indices of their answers are fixed.
+/// The program that replays a list counts for itself; the two must agree.
+#[derive(Clone, Copy, Default, PartialEq, Debug)]
+pub struct Counts {
+    pub cases: u64,
+    pub build: u64,
+    pub is_tree_of: u64,
+    pub nearest: u64,
+    pub bounded: u64,
+    pub k_squares: u64,
+    pub k_roots: u64,
+    pub radius: u64,
+    pub limit: u64,
+    pub matching: u64,
+    pub pairs: u64,
+    pub sums: u64,
+    pub mse: u64,
+    pub scale: u64,
+    pub centred: u64,
+    pub frame: u64,
+    pub local: u64,
+    pub values: u64,
+    pub indices: u64,
+}
+
+impl Counts {
+    pub fn lines(&self) -> [(&'static str, u64); 19] {
+        [
+            ("cases", self.cases),
+            ("build", self.build),
+            ("is_tree_of", self.is_tree_of),
+            ("nearest", self.nearest),
+            ("bounded", self.bounded),
+            ("k_squares", self.k_squares),
+            ("k_roots", self.k_roots),
+            ("radius", self.radius),
+            ("limit", self.limit),
+            ("matching", self.matching),
+            ("pairs", self.pairs),
+            ("sums", self.sums),
+            ("mse", self.mse),
+            ("scale", self.scale),
+            ("centred", self.centred),
+            ("frame", self.frame),
+            ("local", self.local),
+            ("values", self.values),
+            ("indices", self.indices),
+        ]
+    }
+
+    pub fn queries(&self) -> u64 {
+        self.nearest + self.bounded + self.k_squares + self.k_roots + self.radius
+    }
+
+    pub fn add(&mut self, o: &Counts) {
+        self.cases += o.cases;
+        self.build += o.build;
+        self.is_tree_of += o.is_tree_of;
+        self.nearest += o.nearest;
+        self.bounded += o.bounded;
+        self.k_squares += o.k_squares;
+        self.k_roots += o.k_roots;
+        self.radius += o.radius;
+        self.limit += o.limit;
+        self.matching += o.matching;
+        self.pairs += o.pairs;
+        self.sums += o.sums;
+        self.mse += o.mse;
+        self.scale += o.scale;
+        self.centred += o.centred;
+        self.frame += o.frame;
+        self.local += o.local;
+        self.values += o.values;
+        self.indices += o.indices;
+    }
+}
+
 pub struct Stream {
     pub words: Vec<u32>,
-    pub cases: u32,
-    pub queries: u64,
-    pub entries: u64,
+    pub counts: Counts,
+    /// Indices that the Rust does not fix.
     pub any: u64,
-    pub layouts: u32,
+    pub layouts: u64,
     /// Answers of the Rust that are not those of a plain sort of all distances: must stay 0.
     pub wrong: u64,
 }
@@ -179,26 +257,52 @@ impl Stream {
     pub fn new() -> Self {
         Stream {
             words: vec![MAGIC, 0],
-            cases: 0,
-            queries: 0,
-            entries: 0,
+            counts: Counts::default(),
             any: 0,
             layouts: 0,
             wrong: 0,
         }
     }
 
+    /// A word, a float or a double of an answer.
+    fn value(&mut self, w: u32) {
+        self.counts.values += 1;
+        self.words.push(w);
+    }
+
+    fn values(&mut self, p: &Point3f) {
+        for c in [p.x, p.y, p.z] {
+            self.value(c.to_bits());
+        }
+    }
+
+    fn doubles(&mut self, list: &[f64]) {
+        for v in list {
+            let b = v.to_bits();
+            self.value(b as u32);
+            self.words.push((b >> 32) as u32);
+        }
+    }
+
+    fn index(&mut self, fixed: bool, i: u32) {
+        self.counts.indices += fixed as u64;
+        self.any += !fixed as u64;
+        self.words.push(if fixed { i } else { ANY });
+    }
+
     fn point(&mut self, p: &Point3f) {
         self.words.extend([p.x.to_bits(), p.y.to_bits(), p.z.to_bits()]);
     }
 
-    fn double(&mut self, v: f64) {
-        let b = v.to_bits();
-        self.words.extend([b as u32, (b >> 32) as u32]);
-    }
-
     fn query(&mut self, op: u32, q: &Point3f, arg: u32, seed: Option<(usize, f32)>) {
-        self.queries += 1;
+        let c = &mut self.counts;
+        *match op {
+            1 => &mut c.bounded,
+            2 => &mut c.k_squares,
+            3 => &mut c.k_roots,
+            4 => &mut c.radius,
+            _ => &mut c.nearest,
+        } += 1;
         self.words.push(op);
         self.point(q);
         let (i, d) = seed.map_or((NONE, 0), |(i, d)| (i as u32, d.to_bits()));
@@ -207,12 +311,11 @@ impl Stream {
 
     /// An entry's index is fixed if it is the only indexed point at that distance, or the seed kept.
     fn answer(&mut self, list: &[(usize, f32)], count: &HashMap<u32, u32>, seed: Option<(usize, f32)>) {
-        self.words.push(list.len() as u32);
+        self.value(list.len() as u32);
         for &(i, d) in list {
             let fixed = count.get(&d.to_bits()) == Some(&1) || seed == Some((i, d));
-            self.entries += 1;
-            self.any += !fixed as u64;
-            self.words.extend([if fixed { i as u32 } else { ANY }, d.to_bits()]);
+            self.index(fixed, i as u32);
+            self.value(d.to_bits());
         }
     }
 
@@ -221,7 +324,7 @@ impl Stream {
     }
 
     pub fn finish(mut self) -> Self {
-        self.words[1] = self.cases;
+        self.words[1] = self.counts.cases as u32;
         self
     }
 
@@ -239,33 +342,54 @@ impl Stream {
             b.sort();
             b.windows(2).all(|w| w[0] != w[1])
         });
-        self.cases += 1;
-        self.layouts += layout as u32;
-        self.words.extend([1, n as u32, slots.len() as u32, layout as u32, 0]);
-        let at = self.words.len() - 1;
+        self.counts.cases += 1;
+        self.counts.build += 1;
+        self.counts.is_tree_of += 1;
+        self.layouts += layout as u64;
+        self.words.extend([1, layout as u32, 0, n as u32]);
+        let at = self.words.len() - 2;
         for p in &c {
             self.point(p);
         }
+        self.value(slots.len() as u32);
         if layout {
-            self.words.extend(&slots);
+            for s in slots {
+                self.index(true, s);
+            }
         }
-        let before = self.queries;
+        let before = self.counts.queries();
         for round in 0..rounds {
             self.queries_of(r, family, &c, &tree, layout, round);
         }
-        self.words[at] = (self.queries - before) as u32;
+        self.words[at] = (self.counts.queries() - before) as u32;
     }
 
-    fn queries_of(&mut self, r: &mut Rng, family: Family, c: &[Point3f], tree: &KdTree, layout: bool, round: usize) {
+    /// On a point, non-finite and other special numbers, between two points, outside the cloud, or of the cloud's family.
+    fn query_point(r: &mut Rng, family: Family, c: &[Point3f]) -> Point3f {
         let n = c.len();
-        let q = match r.below(4) {
-            0 if n > 0 => c[r.below(n as u32) as usize],
+        let one = |r: &mut Rng| c[r.below(n as u32) as usize];
+        match r.below(6) {
+            0 if n > 0 => one(r),
             1 => point(r, Family::Special, 0, n),
+            2 if n > 0 => {
+                let (a, b) = (one(r), one(r));
+                let half = |x: f32, y: f32| x * 0.5 + y * 0.5;
+                Point3f::new(half(a.x, b.x), half(a.y, b.y), half(a.z, b.z))
+            }
+            3 if n > 0 => {
+                let a = one(r);
+                Point3f::new(a.x * 3.0 + 5.0, a.y * 3.0 - 5.0, a.z * 3.0)
+            }
             _ => {
                 let i = r.next() as usize % (n + 1);
                 point(r, family, i, n + 1)
             }
-        };
+        }
+    }
+
+    fn queries_of(&mut self, r: &mut Rng, family: Family, c: &[Point3f], tree: &KdTree, layout: bool, round: usize) {
+        let n = c.len();
+        let q = Self::query_point(r, family, c);
         let all = all_distances(c, &q);
         let squares = seen(c, &q, false, layout);
         let roots = seen(c, &q, true, layout);
@@ -283,17 +407,19 @@ impl Stream {
         let least = all.first().copied().filter(|d| *d < bound);
         self.expect(a.iter().map(|a| a.1.to_bits()), least.iter().map(|d| d.to_bits()));
         self.answer(a.as_slice(), &squares, None);
-        if n > 0 {
+        self.query(5, &q, 0, None);
+        let a = tree.find_nearest_bounded(&q, f32::INFINITY, None);
+        self.answer(a.as_slice(), &squares, None);
+        // A seed with its own distance, or with any; on an empty tree too.
+        let (s, d) = if n == 0 || round % 4 == 3 {
+            (r.below(n.max(1) as u32) as usize, r.special())
+        } else {
             let s = r.below(n as u32) as usize;
-            let d = if round % 4 == 3 {
-                r.special()
-            } else {
-                distance_squared(&c[s], &q)
-            };
-            self.query(1, &q, bound.to_bits(), Some((s, d)));
-            let a = tree.find_nearest_bounded(&q, bound, Some((s, d)));
-            self.answer(a.as_slice(), &squares, Some((s, d)).filter(|s| s.1 < bound));
-        }
+            (s, distance_squared(&c[s], &q))
+        };
+        self.query(1, &q, bound.to_bits(), Some((s, d)));
+        let a = tree.find_nearest_bounded(&q, bound, Some((s, d)));
+        self.answer(a.as_slice(), &squares, Some((s, d)).filter(|s| s.1 < bound));
 
         let k = match r.below(6) {
             0 => 0,
@@ -331,10 +457,12 @@ impl Stream {
     pub fn match_case(&mut self, r: &mut Rng, family: Family, ns: usize, nt: usize) {
         let (s, t) = (cloud(r, family, ns), cloud(r, family, nt));
         let tree = KdTree::new(&t).unwrap();
-        let limit = match r.below(5) {
+        let limit = match r.below(6) {
             0 => None,
             1 => Some(r.unit()),
             2 => Some(r.special()),
+            // Exactly as far as two of the points are apart.
+            3 => Some(distance_squared(&t[0], &s[0]).sqrt()),
             _ => Some(4.0),
         };
         let bound = given::limit(limit);
@@ -342,14 +470,6 @@ impl Stream {
             .map(|_| (r.below(2) == 1).then(|| (r.below(nt as u32) as usize, 0.0)))
             .collect();
         let mut m = seeds.clone();
-        self.cases += 1;
-        let shown = limit.unwrap_or(0.0).to_bits();
-        self.words
-            .extend([2, ns as u32, nt as u32, limit.is_some() as u32, shown, bound.to_bits()]);
-        for p in s.iter().chain(&t) {
-            self.point(p);
-        }
-        self.words.extend(seeds.iter().map(|e| e.map_or(NONE, |e| e.0 as u32)));
         let first = given::seeded(&s, &t, &tree, &seeds, bound);
         let sums = given::matched(&s, &t, &tree, &mut m, bound);
         let bits = |l: &[Option<(usize, f32)>]| -> Vec<u64> {
@@ -358,32 +478,62 @@ impl Stream {
                 .collect()
         };
         self.wrong += (bits(&first) != bits(&m)) as u64;
-        let mut fixed = ns <= 1024;
-        for i in 0..ns {
-            let own = m[i].map_or(true, |(j, d)| {
-                seen(&t, &s[i], false, false).get(&d.to_bits()) == Some(&1) || seeds[i].map(|x| x.0) == Some(j)
-            });
-            fixed &= own;
-            self.entries += 1;
-            self.any += !own as u64;
-            self.words.push(match m[i] {
-                None => NONE,
-                Some((j, _)) if own => j as u32,
-                _ => ANY,
-            });
+        let own: Vec<bool> = (0..ns)
+            .map(|i| {
+                m[i].map_or(true, |(j, d)| {
+                    seen(&t, &s[i], false, false).get(&d.to_bits()) == Some(&1) || seeds[i].map(|x| x.0) == Some(j)
+                })
+            })
+            .collect();
+        let seeds: Vec<u32> = seeds.iter().map(|e| e.map_or(NONE, |e| e.0 as u32)).collect();
+        self.matched(limit, &s, &t, &seeds, &m, &own, &sums);
+    }
+
+    /// A case of matching: the clouds, the limit and the seeds, the Rust's entries (those that are its `own` are fixed) and sums.
+    #[allow(clippy::too_many_arguments)]
+    fn matched(
+        &mut self,
+        limit: Option<f32>,
+        s: &[Point3f],
+        t: &[Point3f],
+        seeds: &[u32],
+        m: &[Option<(usize, f32)>],
+        own: &[bool],
+        sums: &given::Sums,
+    ) {
+        self.counts.cases += 1;
+        self.counts.build += 1;
+        self.counts.matching += 1;
+        self.words.push(2);
+        self.limit(limit);
+        self.words.extend([s.len() as u32, t.len() as u32]);
+        for p in s.iter().chain(t) {
+            self.point(p);
         }
-        self.words
-            .extend([given::pairs(&m).len() as u32, fixed as u32, sums.count as u32]);
-        for v in sums
-            .p
-            .iter()
-            .chain(&sums.q)
-            .chain(sums.pq.iter().flatten())
-            .chain([&sums.err])
-        {
-            self.double(*v);
+        self.words.extend(seeds);
+        for (e, own) in m.iter().zip(own) {
+            self.index(*own, e.map_or(NONE, |e| e.0 as u32));
         }
-        self.words.push(sums.mse.to_bits());
+        let pairs = given::pairs(m);
+        self.counts.pairs += 1;
+        self.value(pairs.len() as u32);
+        for (i, j) in pairs {
+            self.index(true, i as u32);
+            self.index(own[i], j as u32);
+        }
+        // 01: sums are equal up to 1,024 source points without ties.
+        let comparable = s.len() <= 1024 && own.iter().all(|o| *o);
+        self.counts.sums += 1;
+        self.words.push(comparable as u32);
+        self.value(sums.count as u32);
+        if comparable {
+            self.doubles(&sums.p);
+            self.doubles(&sums.q);
+            self.doubles(sums.pq.as_flattened());
+            self.doubles(&[sums.err]);
+            self.counts.mse += 1;
+            self.value(sums.mse.to_bits());
+        }
     }
 
     /// Whole coordinates of magnitude at most 32,768, where 01 says that scale and frame equal the Rust's.
@@ -401,20 +551,24 @@ impl Stream {
             c[2] = Point3f::new(0.0, f32::INFINITY, 2.0);
         }
         let (s, f) = (CloudScale::of(&c), LocalFrame::if_far_from_origin(&c));
-        self.cases += 1;
-        self.words.extend([3, n as u32, f.is_some() as u32]);
+        let centred = LocalFrame::centred_on(&c).origin;
+        self.counts.cases += 1;
+        self.counts.scale += 1;
+        self.counts.centred += 1;
+        self.counts.frame += 1;
+        self.words.extend([3, n as u32]);
         for p in &c {
             self.point(p);
         }
-        self.point(&s.centroid);
-        self.words.push(s.radius.to_bits());
+        self.values(&s.centroid);
+        self.value(s.radius.to_bits());
+        self.doubles(&[centred.x, centred.y, centred.z]);
+        self.value(f.is_some() as u32);
         if let Some(f) = f {
-            for v in [f.origin.x, f.origin.y, f.origin.z] {
-                self.double(v);
-            }
+            self.doubles(&[f.origin.x, f.origin.y, f.origin.z]);
             for p in &c {
-                let local = f.point_to_local(p);
-                self.point(&local);
+                self.counts.local += 1;
+                self.values(&f.point_to_local(p));
             }
         }
     }
@@ -432,36 +586,23 @@ impl Stream {
         let tree = KdTree::new(&t).unwrap();
         let mut m: given::Matches = vec![None; 49];
         let sums = given::matched(&s, &t, &tree, &mut m, f32::INFINITY);
-        self.cases += 1;
-        self.words.extend([2, 49, 49, 0, 0, f32::INFINITY.to_bits()]);
-        for p in s.iter().chain(&t) {
-            self.point(p);
-        }
-        self.words.extend([NONE; 49]);
-        self.words.extend(m.iter().map(|e| e.map_or(NONE, |e| e.0 as u32)));
-        self.words.extend([given::pairs(&m).len() as u32, 1, sums.count as u32]);
-        for v in sums
-            .p
-            .iter()
-            .chain(&sums.q)
-            .chain(sums.pq.iter().flatten())
-            .chain([&sums.err])
-        {
-            self.double(*v);
-        }
-        self.words.push(sums.mse.to_bits());
+        self.matched(None, &s, &t, &[NONE; 49], &m, &[true; 49], &sums);
+    }
+
+    fn limit(&mut self, l: Option<f32>) {
+        self.counts.limit += 1;
+        self.words.extend([l.is_some() as u32, l.unwrap_or(0.0).to_bits()]);
+        self.value(given::limit(l).to_bits());
     }
 
     pub fn limit_case(&mut self, r: &mut Rng) {
         let drawn: Vec<Option<f32>> = (0..200).map(|_| Some(f32::from_bits(r.next() as u32))).collect();
         let fixed = SPECIAL.iter().map(|b| Some(f32::from_bits(*b)));
         let limits: Vec<Option<f32>> = fixed.chain(drawn).chain([None]).collect();
-        self.cases += 1;
+        self.counts.cases += 1;
         self.words.extend([4, limits.len() as u32]);
         for l in limits {
-            let shown = l.unwrap_or(0.0).to_bits();
-            self.words
-                .extend([l.is_some() as u32, shown, given::limit(l).to_bits()]);
+            self.limit(l);
         }
     }
 }

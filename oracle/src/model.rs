@@ -199,6 +199,10 @@ impl Side for Model {
         h.entries.first().copied()
     }
 
+    fn nearest(&self, t: &Tree, q: [f32; 3]) -> Option<(u32, f32)> {
+        self.bounded(t, q, f32::INFINITY, None)
+    }
+
     fn list(&self, t: &Tree, q: [f32; 3], op: Op) -> Vec<(u32, f32)> {
         let (k, limit) = match op {
             Op::Squares(k) | Op::Roots(k) => (k as usize, 0.0),
@@ -320,6 +324,7 @@ impl Side for Model {
         Scale {
             centroid,
             radius,
+            centred: c,
             origin: (!near).then_some(c),
         }
     }

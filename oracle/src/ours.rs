@@ -36,6 +36,18 @@ extern "C" {
         index: *mut u32,
         distance_sq: *mut f32,
     ) -> u32;
+    fn ongdhuse_find_nearest(
+        coords: *const f32,
+        coords_len: usize,
+        indices: *const u32,
+        indices_len: usize,
+        x: f32,
+        y: f32,
+        z: f32,
+        found: *mut u32,
+        index: *mut u32,
+        distance_sq: *mut f32,
+    ) -> u32;
     fn ongdhuse_find_k_nearest_into(
         coords: *const f32,
         coords_len: usize,
@@ -118,6 +130,7 @@ extern "C" {
     ) -> u32;
     fn ongdhuse_mse(count: u32, sum_sq_error: f64) -> f32;
     fn ongdhuse_cloud_scale(cloud: *const f32, cloud_len: usize, scale: *mut f32, scale_len: usize) -> u32;
+    fn ongdhuse_centred_on(cloud: *const f32, cloud_len: usize, origin: *mut f64, origin_len: usize) -> u32;
     fn ongdhuse_if_far_from_origin(
         cloud: *const f32,
         cloud_len: usize,
@@ -141,6 +154,78 @@ pub struct Ours;
 
 fn accepted(refusal: u32) {
     assert_eq!(refusal, 0, "the proved library refused");
+}
+
+/// The numbers of the refusals that docs/DIFFERENCES.md shows; `many` is a cloud of 1,048,577 points.
+pub fn refusals(many: &[f32]) {
+    let (zeros, slot, mut room, mut places, mut n) = ([0.0f32; 3], [0u32], [0.0f32; 3], [0u32; 1], 0u32);
+    let mut build = |cloud: &[f32]| unsafe {
+        let (c, i) = (room.as_mut_ptr(), places.as_mut_ptr());
+        ongdhuse_build(cloud.as_ptr(), cloud.len(), c, 3, i, 1, &mut n)
+    };
+    println!(
+        "here a cloud of 1 number: {}; 1,048,577 points: {}",
+        build(&zeros[..1]),
+        build(many)
+    );
+    println!("here a list too short for a cloud of 2 points: {}", build(&[0.0; 6]));
+    let matching = |source: &[f32], target: &[f32], slots: usize, list: &mut [u32]| unsafe {
+        let (c, i) = (zeros.as_ptr(), slot.as_ptr());
+        let (s, t) = (source.as_ptr(), target.as_ptr());
+        ongdhuse_find_correspondences_seeded(
+            s,
+            source.len(),
+            t,
+            target.len(),
+            c,
+            3 * slots,
+            i,
+            slots,
+            0,
+            0.0,
+            list.as_mut_ptr(),
+            list.len(),
+        )
+    };
+    println!(
+        "here a seed 1 for one target point: {}",
+        matching(&zeros, &zeros, 1, &mut [1])
+    );
+    println!(
+        "here no entry for one source point: {}",
+        matching(&zeros, &zeros, 1, &mut [])
+    );
+    println!("here an empty source: {}", matching(&[], &zeros, 1, &mut []));
+    println!("here an empty target: {}", matching(&zeros, &[], 0, &mut [u32::MAX]));
+    let (mut sums, mut count) = ([0.0f64; 16], 0u32);
+    let why = unsafe {
+        let z = zeros.as_ptr();
+        ongdhuse_collect(z, 3, z, 3, [1u32].as_ptr(), 1, sums.as_mut_ptr(), 16, &mut count)
+    };
+    println!("here a match entry 1 for one target point: {why}");
+    let (mut index, mut far) = ([0u32], [0.0f32]);
+    let (why, z) = (
+        unsafe {
+            let (c, i) = (zeros.as_ptr(), slot.as_ptr());
+            ongdhuse_find_k_nearest(
+                c,
+                3,
+                i,
+                1,
+                0.0,
+                0.0,
+                0.0,
+                u32::MAX,
+                index.as_mut_ptr(),
+                1,
+                far.as_mut_ptr(),
+                1,
+                &mut count,
+            )
+        },
+        index[0],
+    );
+    println!("here k nearest with k = 2^32 - 1: {why}, {count} entry, index {z}");
 }
 
 impl Side for Ours {
@@ -189,6 +274,25 @@ impl Side for Ours {
                 seed.is_some() as u32,
                 s,
                 d,
+                &mut found,
+                &mut index,
+                &mut distance,
+            ));
+        }
+        (found == 1).then_some((index, distance))
+    }
+
+    fn nearest(&self, t: &Tree, q: [f32; 3]) -> Option<(u32, f32)> {
+        let (mut found, mut index, mut distance) = (0u32, 0u32, 0.0f32);
+        unsafe {
+            accepted(ongdhuse_find_nearest(
+                t.coords.as_ptr(),
+                t.coords.len(),
+                t.indices.as_ptr(),
+                t.indices.len(),
+                q[0],
+                q[1],
+                q[2],
                 &mut found,
                 &mut index,
                 &mut distance,
@@ -319,9 +423,15 @@ impl Side for Ours {
     }
 
     fn scale(&self, cloud: &[f32]) -> Scale {
-        let (mut s, mut origin, mut is_far) = ([0.0f32; 4], [0.0f64; 3], 0u32);
+        let (mut s, mut centred, mut origin, mut is_far) = ([0.0f32; 4], [0.0f64; 3], [0.0f64; 3], 0u32);
         unsafe {
             accepted(ongdhuse_cloud_scale(cloud.as_ptr(), cloud.len(), s.as_mut_ptr(), 4));
+            accepted(ongdhuse_centred_on(
+                cloud.as_ptr(),
+                cloud.len(),
+                centred.as_mut_ptr(),
+                3,
+            ));
             accepted(ongdhuse_if_far_from_origin(
                 cloud.as_ptr(),
                 cloud.len(),
@@ -333,6 +443,7 @@ impl Side for Ours {
         Scale {
             centroid: [s[0], s[1], s[2]],
             radius: s[3],
+            centred,
             origin: (is_far == 1).then_some(origin),
         }
     }

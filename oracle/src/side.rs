@@ -21,12 +21,15 @@ pub struct Sums {
 pub struct Scale {
     pub centroid: [f32; 3],
     pub radius: f32,
+    /// The origin of the centred frame, and of the frame if there is one.
+    pub centred: [f64; 3],
     pub origin: Option<[f64; 3]>,
 }
 
 pub trait Side {
     fn build(&self, cloud: &[f32]) -> Tree;
     fn bounded(&self, t: &Tree, q: [f32; 3], bound: f32, seed: Option<(u32, f32)>) -> Option<(u32, f32)>;
+    fn nearest(&self, t: &Tree, q: [f32; 3]) -> Option<(u32, f32)>;
     fn list(&self, t: &Tree, q: [f32; 3], op: Op) -> Vec<(u32, f32)>;
     fn limit(&self, d: Option<f32>) -> f32;
     /// The match list afterwards, for the seeds in `matches`.

@@ -29,4 +29,4 @@ X="$X --extern rayon=$rayon --extern threecrate_core=$out/libthreecrate_core.rli
 $R --crate-type rlib --crate-name threecrate_algorithms $X "$out/gen/algorithms.rs" -o "$out/libthreecrate_algorithms.rlib" 2>"$out/given.log" || { cat "$out/given.log" >&2; exit 1; }
 X="$X --extern threecrate_algorithms=$out/libthreecrate_algorithms.rlib"
 if [ -n "$3" ]; then X="$X --cfg linked -C link-arg=$3"; fi
-$R --crate-name oracle -C codegen-units=1 --check-cfg 'cfg(linked)' $X "$here/src/main.rs" -o "$out/oracle"
+$R --crate-name oracle -C codegen-units=1 --check-cfg 'cfg(linked, test)' $X "$here/src/main.rs" -o "$out/oracle"

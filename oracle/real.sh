@@ -5,7 +5,7 @@
 set -e
 mkdir -p "$1"
 out=$(cd "$1" && pwd)
-mkdir -p "$out/apt/lists/partial" "$out/apt/cache/archives/partial" "$out/debs" "$out/root" "$out/src" "$out/.cargo"
+mkdir -p "$out/apt/lists/partial" "$out/apt/cache/archives/partial" "$out/debs" "$out/unpacked" "$out/src" "$out/.cargo"
 : >"$out/apt/status"
 # from where this machine has its own Debian packages
 from=$(apt-get indextargets --format '$(REPO_URI)' 2>/dev/null | grep -m 1 '/debian/*$') || { echo "oracle/real.sh: no source of Debian packages here" >&2; exit 2; }
@@ -23,7 +23,7 @@ export APT_CONFIG="$out/apt/apt.conf"
 apt-get -qq update
 names=$(apt-get -s --no-install-recommends install librust-nalgebra-dev librust-rayon-dev | awk '/^Inst librust-/ { print $2 }')
 (cd "$out/debs" && apt-get -qq download $names)
-for deb in "$out"/debs/*.deb; do dpkg-deb -x "$deb" "$out/root"; done
+for deb in "$out"/debs/*.deb; do dpkg-deb -x "$deb" "$out/unpacked"; done
 cat >"$out/Cargo.toml" <<'END'
 [package]
 name = "leans"
@@ -38,7 +38,7 @@ cat >"$out/.cargo/config.toml" <<END
 [source.crates-io]
 replace-with = "debian"
 [source.debian]
-directory = "$out/root/usr/share/cargo/registry"
+directory = "$out/unpacked/usr/share/cargo/registry"
 END
 (cd "$out" && cargo build --release --offline --quiet)
 (cd "$out" && cargo tree --offline --quiet --depth 1)

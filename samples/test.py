@@ -1,7 +1,7 @@
 #!/usr/bin/env python3
 """Tests of the converter, of the sample, and of the built program against rules.py.   python3 samples/test.py
 
-Run by hand; the gate does not need it. The program's part asks for target/bin/scan_match (./scan-match builds it)
+Run by hand; the gate does not need it. The program's part asks for crates/scan_match/out/scan_match (./scan-match builds it)
 on x86-64, and is skipped without it.
 """
 import os
@@ -22,7 +22,7 @@ import rules
 import to_scan
 
 TOP = os.path.dirname(HERE)
-PROGRAM = os.path.join(TOP, "target", "bin", "scan_match")
+PROGRAM = os.path.join(TOP, "crates", "scan_match", "out", "scan_match")
 
 
 def packed(*numbers):
@@ -212,7 +212,7 @@ class Stored(unittest.TestCase):
         self.assertEqual(rules.answer(self.read("scan_match/stdin")).encode(), self.read("scan_match/stdout"))
 
 
-@unittest.skipUnless(platform.machine() == "x86_64" and os.access(PROGRAM, os.X_OK), "target/bin/scan_match is not built, or not for this machine")
+@unittest.skipUnless(platform.machine() == "x86_64" and os.access(PROGRAM, os.X_OK), "crates/scan_match/out/scan_match is not built, or not for this machine")
 class Program(unittest.TestCase):
     def same(self, data):
         wrote = subprocess.run([PROGRAM], input=data, stdout=subprocess.PIPE).stdout.decode()

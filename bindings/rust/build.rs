@@ -10,7 +10,7 @@ fn main() {
     let archive = folder.join("libcapi.a");
     assert!(
         archive.is_file(),
-        "no archive {}: run `rt staticlib capi`, or set ONGDHUSE_LIB to the folder that holds it",
+        "no archive {}: run `bindings/archive`, or set ONGDHUSE_LIB to the folder that holds it",
         archive.display()
     );
     println!("cargo:rerun-if-changed={}", archive.display());

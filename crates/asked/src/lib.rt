@@ -1,47 +1,49 @@
 // A cloud with the queries that were asked of its tree.
+#![tactic(auto)]
+
 ghost use Rattle.std.specs.Prelude.{◌≤◌};
 
 use build::{Built, Checked};
 use lists::Listed;
 use search::{Nearest, Searched};
 use space::Point3f;
-use stream::Counts;
+use stream::Answers;
 use tree::KdTree;
 
 // The slots that were built; none and a difference where it was refused.
-pub fn slots(built: Built, counts: &mut Counts) -> usize
+pub fn slots(built: Built, answers: &mut Answers) -> usize
     ensures { result ≤ 1025 }
 {
-    stream::tally(counts, stream::BUILD);
+    stream::tally(answers, stream::BUILD);
     if let Built::Count(m) = built {
         if m <= stream::POINTS {
             return m;
         }
     }
-    stream::tally(counts, stream::DIFFER);
+    stream::tally(answers, stream::DIFFER);
     0
 }
 
-fn found(answer: Nearest, counts: &mut Counts) {
+fn found(answer: Nearest, answers: &mut Answers) {
     match answer {
         Nearest::Found(i, d) => {
-            stream::same_word(1, counts);
-            stream::same_index(i, counts);
-            stream::same_float(d, counts);
+            stream::same_word(1, answers);
+            stream::same_index(i, answers);
+            stream::same_float(d, answers);
         }
-        Nearest::Nothing => stream::same_word(0, counts),
+        Nearest::Nothing => stream::same_word(0, answers),
     }
 }
 
-fn searched(answer: Searched, counts: &mut Counts) {
+fn searched(answer: Searched, answers: &mut Answers) {
     match answer {
-        Searched::Answer(a) => found(a, counts),
-        Searched::Refused(_) => stream::tally(counts, stream::DIFFER),
+        Searched::Answer(a) => found(a, answers),
+        Searched::Refused(_) => stream::tally(answers, stream::DIFFER),
     }
 }
 
 // How many entries were written; none and a difference where it was refused.
-fn entries(listed: Listed, counts: &mut Counts) -> usize
+fn entries(listed: Listed, answers: &mut Answers) -> usize
     ensures { result ≤ 1025 }
 {
     if let Listed::Count(n) = listed {
@@ -50,7 +52,7 @@ fn entries(listed: Listed, counts: &mut Counts) -> usize
             return k;
         }
     }
-    stream::tally(counts, stream::DIFFER);
+    stream::tally(answers, stream::DIFFER);
     0
 }
 
@@ -59,46 +61,46 @@ fn same_entries(
     found: &[u32; stream::POINTS],
     far: &[f32; stream::POINTS],
     n: usize,
-    counts: &mut Counts,
+    answers: &mut Answers,
 )
     requires { n ≤ 1025 }
 {
-    stream::same_word(n as u32, counts);
+    stream::same_word(n as u32, answers);
     let mut i: usize = 0;
     while i < n {
-        stream::same_index(found[i], counts);
-        stream::same_float(far[i], counts);
+        stream::same_index(found[i], answers);
+        stream::same_float(far[i], answers);
         i += 1;
     }
 }
 
-fn squares(coords: &[f32], indices: &[u32], query: Point3f, k: u32, counts: &mut Counts) {
+fn squares(coords: &[f32], indices: &[u32], query: Point3f, k: u32, answers: &mut Answers) {
     let mut found = [0u32; stream::POINTS];
     let mut far = [0.0f32; stream::POINTS];
     let k = k as usize;
     let listed = lists::find_k_nearest_into(coords, indices, query, k, &mut found, &mut far);
-    stream::tally(counts, stream::SQUARES);
-    let n = entries(listed, counts);
-    same_entries(&found, &far, n, counts);
+    stream::tally(answers, stream::SQUARES);
+    let n = entries(listed, answers);
+    same_entries(&found, &far, n, answers);
 }
 
-fn roots(coords: &[f32], indices: &[u32], query: Point3f, k: u32, counts: &mut Counts) {
+fn roots(coords: &[f32], indices: &[u32], query: Point3f, k: u32, answers: &mut Answers) {
     let mut found = [0u32; stream::POINTS];
     let mut far = [0.0f32; stream::POINTS];
     let k = k as usize;
     let listed = lists::find_k_nearest(coords, indices, query, k, &mut found, &mut far);
-    stream::tally(counts, stream::ROOTS);
-    let n = entries(listed, counts);
-    same_entries(&found, &far, n, counts);
+    stream::tally(answers, stream::ROOTS);
+    let n = entries(listed, answers);
+    same_entries(&found, &far, n, answers);
 }
 
-fn within(coords: &[f32], indices: &[u32], query: Point3f, r: f32, counts: &mut Counts) {
+fn within(coords: &[f32], indices: &[u32], query: Point3f, r: f32, answers: &mut Answers) {
     let mut found = [0u32; stream::POINTS];
     let mut far = [0.0f32; stream::POINTS];
     let listed = radius::find_radius_neighbors(coords, indices, query, r, &mut found, &mut far);
-    stream::tally(counts, stream::RADIUS);
-    let n = entries(listed, counts);
-    same_entries(&found, &far, n, counts);
+    stream::tally(answers, stream::RADIUS);
+    let n = entries(listed, answers);
+    same_entries(&found, &far, n, answers);
 }
 
 fn bounded(
@@ -107,21 +109,21 @@ fn bounded(
     query: Point3f,
     bound: f32,
     seed: Nearest,
-    counts: &mut Counts,
+    answers: &mut Answers,
 ) {
-    stream::tally(counts, stream::BOUNDED);
+    stream::tally(answers, stream::BOUNDED);
     let answer = search::find_nearest_bounded(coords, indices, query, bound, seed);
-    searched(answer, counts);
+    searched(answer, answers);
 }
 
-fn nearest(coords: &[f32], indices: &[u32], query: Point3f, counts: &mut Counts) {
-    stream::tally(counts, stream::NEAREST);
-    searched(search::find_nearest(coords, indices, query), counts);
+fn nearest(coords: &[f32], indices: &[u32], query: Point3f, answers: &mut Answers) {
+    stream::tally(answers, stream::NEAREST);
+    searched(search::find_nearest(coords, indices, query), answers);
 }
 
-fn read_seed(counts: &mut Counts) -> Nearest {
-    let i = stream::word(counts);
-    let d = stream::float(counts);
+fn read_seed(answers: &mut Answers) -> Nearest {
+    let i = stream::word(answers);
+    let d = stream::float(answers);
     if i == KdTree::NO_CHILD {
         Nearest::Nothing
     } else {
@@ -130,40 +132,40 @@ fn read_seed(counts: &mut Counts) -> Nearest {
 }
 
 // One query: its entry, its point, the bound, k or radius, the seed; then the Rust's answer.
-fn ask(coords: &[f32], indices: &[u32], counts: &mut Counts) {
-    let entry = stream::word(counts);
-    let query = stream::point(counts);
-    let given = stream::word(counts);
-    let seed = read_seed(counts);
+fn ask(coords: &[f32], indices: &[u32], answers: &mut Answers) {
+    let entry = stream::word(answers);
+    let query = stream::point(answers);
+    let given = stream::word(answers);
+    let seed = read_seed(answers);
     let number = bits::f32_from_bits(given);
     match entry {
-        1 => bounded(coords, indices, query, number, seed, counts),
-        2 => squares(coords, indices, query, given, counts),
-        3 => roots(coords, indices, query, given, counts),
-        4 => within(coords, indices, query, number, counts),
-        5 => nearest(coords, indices, query, counts),
-        _ => stream::tally(counts, stream::DIFFER),
+        1 => bounded(coords, indices, query, number, seed, answers),
+        2 => squares(coords, indices, query, given, answers),
+        3 => roots(coords, indices, query, given, answers),
+        4 => within(coords, indices, query, number, answers),
+        5 => nearest(coords, indices, query, answers),
+        _ => stream::tally(answers, stream::DIFFER),
     }
 }
 
-fn ask_all(coords: &[f32], indices: &[u32], queries: usize, counts: &mut Counts) {
+fn ask_all(coords: &[f32], indices: &[u32], queries: usize, answers: &mut Answers) {
     let mut i: usize = 0;
     while i < queries {
-        ask(coords, indices, counts);
+        ask(coords, indices, answers);
         i += 1;
     }
 }
 
 // The checking entry says yes, and where the Rust fixes the layout the slots are its.
-fn check(cloud: &[f32], coords: &[f32], indices: &[u32], layout: u32, counts: &mut Counts) {
+fn check(cloud: &[f32], coords: &[f32], indices: &[u32], layout: u32, answers: &mut Answers) {
     let yes = match build::is_tree_of(cloud, coords, indices) {
         Checked::Yes => true,
         Checked::No => false,
         Checked::Refused(_) => false,
     };
-    stream::judge(counts, stream::IS_TREE, yes);
+    stream::judge(answers, stream::IS_TREE, yes);
     if layout == 1 {
-        stream::same_indices(indices, counts);
+        stream::same_indices(indices, answers);
     }
 }
 
@@ -173,27 +175,27 @@ fn use_tree(
     indices: &[u32],
     layout: u32,
     queries: usize,
-    counts: &mut Counts,
+    answers: &mut Answers,
 ) {
-    check(cloud, coords, indices, layout, counts);
-    ask_all(coords, indices, queries, counts);
+    check(cloud, coords, indices, layout, answers);
+    ask_all(coords, indices, queries, answers);
 }
 
-fn grow(cloud: &mut [f32], layout: u32, queries: usize, counts: &mut Counts) {
-    stream::read_floats(cloud, counts);
+fn grow(cloud: &mut [f32], layout: u32, queries: usize, answers: &mut Answers) {
+    stream::read_floats(cloud, answers);
     let mut coords = [0.0f32; stream::NUMBERS];
     let mut indices = [0u32; stream::POINTS];
-    let m = slots(build::build(cloud, &mut coords, &mut indices), counts);
-    stream::same_word(m as u32, counts);
+    let m = slots(build::build(cloud, &mut coords, &mut indices), answers);
+    stream::same_word(m as u32, answers);
     let e = 3 * m;
-    use_tree(cloud, &coords[..e], &indices[..m], layout, queries, counts);
+    use_tree(cloud, &coords[..e], &indices[..m], layout, queries, answers);
 }
 
-pub fn replay(counts: &mut Counts) {
-    let layout = stream::word(counts);
-    let queries = stream::upto(64, counts);
-    let n = stream::upto(stream::POINTS, counts);
+pub fn replay(answers: &mut Answers) {
+    let layout = stream::word(answers);
+    let queries = stream::upto(64, answers);
+    let n = stream::upto(stream::POINTS, answers);
     let mut cloud = [0.0f32; stream::NUMBERS];
     let e = 3 * n;
-    grow(&mut cloud[..e], layout, queries, counts);
+    grow(&mut cloud[..e], layout, queries, answers);
 }

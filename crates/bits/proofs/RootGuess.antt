@@ -1,5 +1,5 @@
 -- A root that was guessed: no step of the guess overflows, and its square and the next one's tell whether it is right. Assumes nothing.
-use Rattle.std.proofs.Common.{◌≡◌, ℕ, zero, suc, ◌+◌, ◌-◌, ◌*◌, ◌/◌, ◌%◌, ◌^◌, ◌<◌, ◌≤◌, Bool, true, false, ◌&&◌, T, leb, sym, refl, ap, ◌∙◌, subst, true≢false, not-suc-le-zero, lt_of_le_of_lt, zero-lt-suc, add-sub_of_le, mul-le-mul, not-le_of_lt, arith, le→leb, leb→le}
+use Rattle.std.proofs.Common.{◌≡◌, ℕ, zero, suc, ◌+◌, ◌-◌, ◌*◌, ◌/◌, ◌%◌, ◌^◌, ◌<◌, ◌≤◌, Bool, true, false, ◌&&◌, T, leb, sym, refl, ap, ◌∙◌, true≢false, not-suc-le-zero, lt_of_le_of_lt, zero-lt-suc, add-sub_of_le, mul-le-mul, not-le_of_lt, arith, le→leb, leb→le}
 use Rattle.bits.proofs.WholeRoot.{sq-lt-back}
 
 -- ---- no step overflows

@@ -1,6 +1,6 @@
 -- Which number of p digits is nearest to a square root, by squares alone (`Nearest`), and that `root` gives it (`root-of-nearest`).
 -- Assumes nothing.
-use Rattle.std.proofs.Common.{◌≡◌, ℕ, zero, suc, ◌+◌, ◌-◌, ◌*◌, ◌/◌, ◌%◌, ◌^◌, ◌<◌, ◌≤◌, Bool, true, false, cond, not, T, eqb, leb, ◌⊎◌, ℤ, sym, refl, ap, ◌∙◌, subst, inl, inr, true≢false, lt_trans, le_of_eq, lt_of_lt_of_le, le_of_suc-le-suc, lt_of_le_of_lt, lt_irrefl, mul-le-mul_right, mul_assoc, suc-mul, add-mul, le_antisymm, lt_of_mul-lt-mul_right, eq-or-lt_of_le, mul-lt-mul_of_pos_right, mul-pos, lt_of_not-le, zero-add, zero-mul, mul-add, not-le_of_lt, mul-div_cancel, mul_left_comm, two-mul, arith, eqb→eq, leb→le, pow_pos, pow_mono, pow-add, shl_lt}
+use Rattle.std.proofs.Common.{◌≡◌, ℕ, zero, suc, ◌+◌, ◌-◌, ◌*◌, ◌/◌, ◌%◌, ◌^◌, ◌<◌, ◌≤◌, Bool, true, false, cond, not, T, eqb, leb, ◌⊎◌, ℤ, sym, refl, ap, ◌∙◌, subst, inl, inr, true≢false, lt_trans, le_of_eq, lt_of_lt_of_le, le_of_suc-le-suc, lt_of_le_of_lt, lt_irrefl, mul_assoc, suc-mul, add-mul, le_antisymm, lt_of_mul-lt-mul_right, eq-or-lt_of_le, mul-lt-mul_of_pos_right, mul-pos, lt_of_not-le, zero-add, zero-mul, mul-add, not-le_of_lt, mul-div_cancel, mul_left_comm, two-mul, arith, eqb→eq, leb→le, pow_pos, pow_mono, pow-add}
 use Prim.Native.Nat.{compare, Ordering}
 use native.Mathlib.Nat.{lt_of_mul-lt-mul_left, mul-div-mul_right, pow-succ', two-pow-succ}
 use lib.Dec.{is_le, compare_is_eq, nleb→lt}

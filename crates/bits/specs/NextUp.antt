@@ -1,5 +1,5 @@
 -- Document 01, "Limit to bound": "the next f32 above d·d, infinity staying infinity". The Rust's `f32::next_up`, for every input. Definitions only.
-use Rattle.std.specs.Prelude.{ℕ, zero, suc, ◌+◌, ◌-◌, true, false, negsuc, Float}
+use Rattle.std.specs.Prelude.{zero, suc, ◌+◌, ◌-◌, true, false, negsuc, Float}
 use Rattle.std.specs.Float.{nan, inf, fin, binary32}
 use Rattle.std.specs.Float.Ieee.{to_bits, of_bits}
 

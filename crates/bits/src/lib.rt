@@ -1,4 +1,6 @@
 // What is read off one number, and what is made of it.
+#![tactic(auto)]
+
 pub mod root;
 
 ghost use Rattle.std.specs.Prelude.{◌≡◌, ◌+◌, ◌^◌, ◌<◌, ◌≤◌, Bool, if◌then◌else◌, from_bits, to_bits};

@@ -7,7 +7,7 @@ ghost use Rattle.bits.specs.Root.{root};
 
 // The digits of a root found so far, what their square leaves of the number so far, and the number's digits still to come: the next in the
 // highest places, zeros behind the last.
-#[derive(Drop)]
+#[derive(Clone, Copy)]
 struct Partial {
     root: u64,
     rest: u64,
@@ -122,7 +122,7 @@ fn highest(m: u64) -> u64
 }
 
 // digits * 2^exponent, in squares of a format's smallest value.
-#[derive(Drop)]
+#[derive(Clone, Copy)]
 struct Scaled {
     digits: u64,
     exponent: u64,

@@ -1,7 +1,12 @@
 // Reads stored records of what Rust gives for a function of `bits` and an argument, compares each with what `bits` gives, and writes how many of each
 // function agree, then how many records do not.
+#![tactic(auto)]
+
 ghost use Rattle.std.specs.Prelude.{◌≡◌, ◌+◌, ◌/◌, ◌%◌, ◌<◌, ◌≤◌, length};
 ghost use Rattle.bits_run.specs.Record.{half_at, word_at, lower, upper, result_of, judged};
+
+use std::io;
+use std::io::Read;
 
 fn wide(b: u8) -> u64
     ensures { (result ≡ b) × (result < 256) }
@@ -77,41 +82,25 @@ fn judge(s: &[u8]) -> u64
     kind
 }
 
-// Reads one record and counts it. Answers whether there was one.
-fn read_one(counts: &mut [u64; 8]) -> bool {
-    let mut record = [0u8; 24];
-    let n = io::read_full(0, &mut record);
-    if n == 0 {
-        return false;
-    }
-    let k = judge(&record[..n]) as usize;
-    counts[k] = std::num::wrapping_add_u64(counts[k], 1);
-    true
-}
-
-// A proved loop has to end, and nothing says that the input does: the turns count down from a number that no run uses up.
-fn read_all(counts: &mut [u64; 8]) {
-    let mut turns = u64::MAX;
-    while turns > 0 && read_one(counts) {
-        turns -= 1;
+// Counts each record by its verdict; one that is cut short is not right.
+fn count_all(records: &[u8], counts: &mut [u64; 8]) {
+    for record in records.chunks(24) {
+        let k = judge(record) as usize;
+        counts[k] = counts[k].wrapping_add(1);
     }
 }
 
-fn line(name: &[u8], n: u64) {
-    io::write_all(1, name);
-    io::print_decimal(1, n);
-    io::write_all(1, b"\n");
-}
-
-fn main() {
+fn main(rt: HostRuntime) -> io::Result<()> {
+    let mut records = Vec::new(rt.alloc());
+    rt.reader().read_to_end(&mut records)?;
     let mut counts = [0u64; 8];
-    read_all(&mut counts);
-    line(b"next_up ", counts[1]);
-    line(b"narrow ", counts[2]);
-    line(b"root_f32 ", counts[3]);
-    line(b"root_f64 ", counts[4]);
-    line(b"finite ", counts[5]);
-    line(b"widen ", counts[6]);
-    line(b"order ", counts[7]);
-    line(b"differ ", counts[0]);
+    count_all(&records, &mut counts);
+    println!(rt; "next_up {}", counts[1])?;
+    println!(rt; "narrow {}", counts[2])?;
+    println!(rt; "root_f32 {}", counts[3])?;
+    println!(rt; "root_f64 {}", counts[4])?;
+    println!(rt; "finite {}", counts[5])?;
+    println!(rt; "widen {}", counts[6])?;
+    println!(rt; "order {}", counts[7])?;
+    println!(rt; "differ {}", counts[0])
 }

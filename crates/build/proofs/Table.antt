@@ -8,7 +8,7 @@ use lib.ListN.{length}
 use lib.Ieee.{Float, nan, fin, to_bits, size, eq}
 use Rattle.bits.specs.Finite.{finite}
 use Rattle.bits.specs.Key.{key}
-use Rattle.tree.specs.Refuse.{refused, gives, refuse, returned, left, count, ragged, uneven, too_many}
+use Rattle.tree.specs.Refuse.{refused, gives, refuse, returned, count, ragged, uneven, too_many}
 use Rattle.tree.specs.Slots.{slots, rank, numbers_of, indices_of}
 use Rattle.tree.specs.Sort.{sort, insert}
 use Rattle.tree.specs.Part.{laid, part_of, lent}

@@ -1,4 +1,6 @@
 // The tree build: the points' indices are brought into order in place, then the coordinates are written beside them.
+#![tactic(auto)]
+
 ghost use Rattle.std.specs.Prelude.{◌≡◌, ℕ, ◌+◌, ◌*◌, ◌/◌, ◌≤◌, ◌<◌, length, take, set};
 ghost use Rattle.tree.specs.Slots.{point_at, numbers_of};
 ghost use Rattle.tree.specs.Part.{laid};
@@ -16,14 +18,14 @@ use select::rank::next_axis;
 use tree::KdTree;
 
 // How many slots were built, or the number of the refusal.
-#[derive(Drop)]
+#[derive(Clone, Copy)]
 pub enum Built {
     Count(usize),
     Refused(u32),
 }
 
 // Whether the lent slots are the tree, or the number of the refusal.
-#[derive(Drop)]
+#[derive(Clone, Copy)]
 pub enum Checked {
     Yes,
     No,

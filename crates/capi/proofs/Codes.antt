@@ -21,7 +21,7 @@ use Rattle.matching.specs.Matching.{match_in}
 use Rattle.sums.specs.Sums.{sums}
 use Rattle.sums.specs.Entries.{sums_in}
 use Rattle.frame.specs.Entries.{scale_in, centred_in, frame_in}
-use Rattle.capi.specs.Codes.{code, in_room}
+use Rattle.capi.specs.Codes.{in_room}
 
 -- ---- a refusal's number is above 0
 

@@ -1,5 +1,5 @@
 -- What an answer says of numbers: counts fit 32 bits, and a part that is handed back is empty exactly where there is no point.
-use Prim.Native.Nat.{ℕ, suc, ◌*◌, ◌/◌, ◌≤◌, ◌<◌}
+use Prim.Native.Nat.{ℕ, suc, ◌*◌, ◌≤◌}
 use native.Mathlib.Omega.{arith}
 use mathlib.Core.Path.{◌≡◌, refl, sym, ap, ◌∙◌}
 use mathlib.Core.Bool.{Bool, true, false, cond, not, ◌||◌}
@@ -9,7 +9,7 @@ use lib.ListN.{length, take, drop, length-drop}
 use lib.Seq.{length-take-le}
 use lib.Ieee.{Float}
 use borrow.Author.Tests.{ltb-true, ltb-false, not-false}
-use Rattle.tree.specs.Refuse.{Outcome, refused, gives, refuse, returned, count, most_points, no_match, ragged, too_many, short}
+use Rattle.tree.specs.Refuse.{Outcome, gives, refuse, returned, count, most_points, no_match, ragged, too_many, short}
 use Rattle.tree.specs.Part.{laid}
 use Rattle.tree.specs.Cloud.{tree_of}
 use Rattle.tree.proofs.Cloud.{indexed-length, tree_of-length}

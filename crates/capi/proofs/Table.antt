@@ -9,14 +9,12 @@ use lib.Ieee.{Float, fin}
 use Rattle.space.specs.declared.Point3f.{Point3f}
 use Rattle.tree.specs.Refuse.{Outcome, refused, gives}
 use Rattle.build.specs.Entries as Build
-use Rattle.search.specs.declared.Nearest.{Nearest}
 use Rattle.search.specs.declared.Nearest.TheVariants.{Found, Nothing}
 use Rattle.lists.specs.Entry.{Entry, indices_in, squares_in}
 use Rattle.matching.specs.declared.Limit.TheVariants.{Unlimited, At}
 use Rattle.matching.specs.Pairs as Pairs
 use Rattle.sums.specs.declared.Vector3d.{Vector3d}
 use Rattle.sums.specs.declared.CorrespondenceStats.{CorrespondenceStats}
-use Rattle.frame.specs.declared.CloudScale.{CloudScale}
 use Rattle.frame.specs.declared.LocalFrame.{LocalFrame}
 use Rattle.capi.specs.Codes.{code, in_room}
 use Rattle.capi.specs.Arguments.{point_of, seed_of, limit_of, sums_of, frame_at}

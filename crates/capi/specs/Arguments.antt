@@ -5,7 +5,6 @@ use Rattle.search.specs.declared.Nearest.{Nearest}
 use Rattle.search.specs.declared.Nearest.TheVariants.{Found, Nothing}
 use Rattle.matching.specs.declared.Limit.{Limit}
 use Rattle.matching.specs.declared.Limit.TheVariants.{Unlimited, At}
-use Rattle.sums.specs.declared.Vector3d.{Vector3d}
 use Rattle.sums.specs.declared.CorrespondenceStats.{CorrespondenceStats}
 use Rattle.sums.specs.Vector.{zero_vector}
 use Rattle.frame.specs.declared.LocalFrame.{LocalFrame}

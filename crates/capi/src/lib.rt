@@ -1,5 +1,7 @@
-// The C interface, include/ongdhuse.h: each function takes its arguments together, calls the entry and takes the answer apart.
-// A slice passes as a pointer and a length, a `&mut` to a number as a pointer.
+// The functions of the C interface, include/ongdhuse.h: each takes its arguments together, calls the entry and takes the answer apart.
+// The crate capi_c exports them to C, each under its own name.
+#![tactic(auto)]
+
 ghost use Rattle.std.specs.Prelude.{◌≡◌, cond, ◌&&◌, ◌+◌, ◌≤◌, ◌<◌, eqb, length, set};
 ghost use Rattle.std.specs.Float.{binary32, binary64};
 ghost use Rattle.bits.specs.Finite.{finite};
@@ -80,8 +82,7 @@ fn tell_nearest(answer: Searched, found: &mut u32, index: &mut u32, distance_sq:
 
 // ---- the tree
 
-#[unsafe(no_mangle)]
-pub extern "C" fn ongdhuse_build(
+pub fn ongdhuse_build(
     cloud: &[f32],
     coords: &mut [f32],
     indices: &mut [u32],
@@ -98,13 +99,7 @@ pub extern "C" fn ongdhuse_build(
     }
 }
 
-#[unsafe(no_mangle)]
-pub extern "C" fn ongdhuse_is_tree_of(
-    cloud: &[f32],
-    coords: &[f32],
-    indices: &[u32],
-    yes: &mut u32,
-) -> u32
+pub fn ongdhuse_is_tree_of(cloud: &[f32], coords: &[f32], indices: &[u32], yes: &mut u32) -> u32
     ensures { Promise.Checks (checking cloud.now coords.now indices.now) result yes.old yes.new }
 {
     match build::is_tree_of(cloud, coords, indices) {
@@ -122,8 +117,7 @@ pub extern "C" fn ongdhuse_is_tree_of(
 
 // ---- searches
 
-#[unsafe(no_mangle)]
-pub extern "C" fn ongdhuse_find_nearest_bounded(
+pub fn ongdhuse_find_nearest_bounded(
     coords: &[f32],
     indices: &[u32],
     x: f32,
@@ -145,8 +139,7 @@ pub extern "C" fn ongdhuse_find_nearest_bounded(
     tell_nearest(answer, found, index, distance_sq)
 }
 
-#[unsafe(no_mangle)]
-pub extern "C" fn ongdhuse_find_nearest(
+pub fn ongdhuse_find_nearest(
     coords: &[f32],
     indices: &[u32],
     x: f32,
@@ -163,8 +156,7 @@ pub extern "C" fn ongdhuse_find_nearest(
     tell_nearest(answer, found, index, distance_sq)
 }
 
-#[unsafe(no_mangle)]
-pub extern "C" fn ongdhuse_find_k_nearest_into(
+pub fn ongdhuse_find_k_nearest_into(
     coords: &[f32],
     indices: &[u32],
     x: f32,
@@ -194,8 +186,7 @@ pub extern "C" fn ongdhuse_find_k_nearest_into(
     }
 }
 
-#[unsafe(no_mangle)]
-pub extern "C" fn ongdhuse_find_k_nearest(
+pub fn ongdhuse_find_k_nearest(
     coords: &[f32],
     indices: &[u32],
     x: f32,
@@ -225,8 +216,7 @@ pub extern "C" fn ongdhuse_find_k_nearest(
     }
 }
 
-#[unsafe(no_mangle)]
-pub extern "C" fn ongdhuse_find_radius_neighbors(
+pub fn ongdhuse_find_radius_neighbors(
     coords: &[f32],
     indices: &[u32],
     x: f32,
@@ -258,15 +248,13 @@ pub extern "C" fn ongdhuse_find_radius_neighbors(
 
 // ---- matching
 
-#[unsafe(no_mangle)]
-pub extern "C" fn ongdhuse_max_distance_sq(limited: u32, limit: f32) -> f32
+pub fn ongdhuse_max_distance_sq(limited: u32, limit: f32) -> f32
     ensures { result ≡ bound_of (limit_of limited limit) }
 {
     matching::max_distance_sq(limit_of(limited, limit))
 }
 
-#[unsafe(no_mangle)]
-pub extern "C" fn ongdhuse_find_correspondences_seeded(
+pub fn ongdhuse_find_correspondences_seeded(
     source: &[f32],
     target: &[f32],
     coords: &[f32],
@@ -284,8 +272,7 @@ pub extern "C" fn ongdhuse_find_correspondences_seeded(
     }
 }
 
-#[unsafe(no_mangle)]
-pub extern "C" fn ongdhuse_correspondence_pairs(
+pub fn ongdhuse_correspondence_pairs(
     matches: &[u32],
     sources: &mut [u32],
     targets: &mut [u32],
@@ -302,8 +289,7 @@ pub extern "C" fn ongdhuse_correspondence_pairs(
     }
 }
 
-#[unsafe(no_mangle)]
-pub extern "C" fn ongdhuse_target_point(cloud: &[f32], index: u32) -> usize
+pub fn ongdhuse_target_point(cloud: &[f32], index: u32) -> usize
     ensures { result ≡ start_of cloud.now index }
 {
     let part = matching::target_point(cloud, index);
@@ -349,8 +335,7 @@ fn put_sums(out: &mut [f64], s: CorrespondenceStats)
     out[15] = s.sum_sq_error;
 }
 
-#[unsafe(no_mangle)]
-pub extern "C" fn ongdhuse_zero_sums(sums: &mut [f64], count: &mut u32) -> u32
+pub fn ongdhuse_zero_sums(sums: &mut [f64], count: &mut u32) -> u32
     ensures { Promise.Sums (in_room (short sums.old 16) (gives Stats.zero_sums)) result sums.old count.old sums.new count.new }
 {
     if sums.len() < 16 {
@@ -362,8 +347,7 @@ pub extern "C" fn ongdhuse_zero_sums(sums: &mut [f64], count: &mut u32) -> u32
     0
 }
 
-#[unsafe(no_mangle)]
-pub extern "C" fn ongdhuse_collect(
+pub fn ongdhuse_collect(
     source: &[f32],
     target: &[f32],
     matches: &[u32],
@@ -385,8 +369,7 @@ pub extern "C" fn ongdhuse_collect(
     }
 }
 
-#[unsafe(no_mangle)]
-pub extern "C" fn ongdhuse_mse(count: u32, sum_sq_error: f64) -> f32
+pub fn ongdhuse_mse(count: u32, sum_sq_error: f64) -> f32
     ensures { result ≡ Stats.mse (sums_of count sum_sq_error) }
 {
     let v = Vector3d::zero();
@@ -413,8 +396,7 @@ fn put_point(out: &mut [f32], p: Point3f)
     out[2] = p.z;
 }
 
-#[unsafe(no_mangle)]
-pub extern "C" fn ongdhuse_cloud_scale(cloud: &[f32], scale: &mut [f32]) -> u32
+pub fn ongdhuse_cloud_scale(cloud: &[f32], scale: &mut [f32]) -> u32
     ensures { Promise.Writes scale_numbers (in_room (short scale.old 4) (scale_in cloud.now)) result scale.old scale.new }
 {
     match CloudScale::of(cloud) {
@@ -430,8 +412,7 @@ pub extern "C" fn ongdhuse_cloud_scale(cloud: &[f32], scale: &mut [f32]) -> u32
     }
 }
 
-#[unsafe(no_mangle)]
-pub extern "C" fn ongdhuse_centred_on(cloud: &[f32], origin: &mut [f64]) -> u32
+pub fn ongdhuse_centred_on(cloud: &[f32], origin: &mut [f64]) -> u32
     ensures { Promise.Writes (λ f. vector_numbers f.origin) (in_room (short origin.old 3) (centred_in cloud.now)) result origin.old origin.new }
 {
     match LocalFrame::centred_on(cloud) {
@@ -446,12 +427,7 @@ pub extern "C" fn ongdhuse_centred_on(cloud: &[f32], origin: &mut [f64]) -> u32
     }
 }
 
-#[unsafe(no_mangle)]
-pub extern "C" fn ongdhuse_if_far_from_origin(
-    cloud: &[f32],
-    origin: &mut [f64],
-    is_far: &mut u32,
-) -> u32
+pub fn ongdhuse_if_far_from_origin(cloud: &[f32], origin: &mut [f64], is_far: &mut u32) -> u32
     ensures { Promise.Frames (in_room (short origin.old 3) (frame_in cloud.now)) result origin.old is_far.old origin.new is_far.new }
 {
     match LocalFrame::if_far_from_origin(cloud) {
@@ -474,8 +450,7 @@ pub extern "C" fn ongdhuse_if_far_from_origin(
     }
 }
 
-#[unsafe(no_mangle)]
-pub extern "C" fn ongdhuse_point_to_local(
+pub fn ongdhuse_point_to_local(
     origin_x: f64,
     origin_y: f64,
     origin_z: f64,
@@ -501,50 +476,43 @@ pub extern "C" fn ongdhuse_point_to_local(
 
 // ---- what is read off one number
 
-#[unsafe(no_mangle)]
-pub extern "C" fn ongdhuse_is_finite(x: f32) -> u32
+pub fn ongdhuse_is_finite(x: f32) -> u32
     ensures { result ≡ flag_of (finite x) }
 {
     if bits::is_finite(x) { 1 } else { 0 }
 }
 
-#[unsafe(no_mangle)]
-pub extern "C" fn ongdhuse_next_up(x: f32) -> f32
+pub fn ongdhuse_next_up(x: f32) -> f32
     ensures { result ≡ next_up x }
 {
     bits::next_up(x)
 }
 
-#[unsafe(no_mangle)]
-pub extern "C" fn ongdhuse_widen(x: f32) -> f64
+pub fn ongdhuse_widen(x: f32) -> f64
     ensures { result ≡ Convert.widen x }
 {
     bits::widen(x)
 }
 
-#[unsafe(no_mangle)]
-pub extern "C" fn ongdhuse_narrow(x: f64) -> f32
+pub fn ongdhuse_narrow(x: f64) -> f32
     ensures { result ≡ Convert.narrow x }
 {
     bits::narrow(x)
 }
 
-#[unsafe(no_mangle)]
-pub extern "C" fn ongdhuse_key(x: f32) -> u32
+pub fn ongdhuse_key(x: f32) -> u32
     ensures { result ≡ Key.key x }
 {
     bits::key(x)
 }
 
-#[unsafe(no_mangle)]
-pub extern "C" fn ongdhuse_sqrt_f32(x: f32) -> f32
+pub fn ongdhuse_sqrt_f32(x: f32) -> f32
     ensures { result ≡ root binary32 x }
 {
     bits::root::sqrt_f32(x)
 }
 
-#[unsafe(no_mangle)]
-pub extern "C" fn ongdhuse_sqrt_f64(x: f64) -> f64
+pub fn ongdhuse_sqrt_f64(x: f64) -> f64
     ensures { result ≡ root binary64 x }
 {
     bits::root::sqrt_f64(x)

@@ -1,5 +1,5 @@
 -- The twelve marked examples, each by computation of the definitions.
-use mathlib.Core.Path.{◌≡◌, refl}
+use mathlib.Core.Path.{refl}
 use lib.Ieee.{add, sub, mul, div, neg, sum, round, units, odd, size, of_int, lt, le, eq, to_bits, of_bits, of_fields}
 use Rattle.bits.specs.Finite.{finite}
 use Rattle.bits.specs.NextUp.{next_up}

@@ -1,12 +1,11 @@
 -- Document 01, "Marked examples": the twelve as one statement, through the rules of the public entries. Definitions only.
-use Rattle.std.specs.Prelude.{◌≡◌, true, false, List, [], ◌∷◌, map, ℕ, pos, negsuc, Float}
-use Rattle.std.proofs.Math.Option.{Option, none, some}
+use Rattle.std.specs.Prelude.{◌≡◌, true, false, List, [], ◌∷◌, ℕ, pos, negsuc, Float}
+use Rattle.std.proofs.Math.Option.{none, some}
 use Rattle.std.specs.Float.{nan, fin}
 use Rattle.bits.specs.Constants.{nought, infinite}
 use Rattle.space.specs.declared.Point3f.{Point3f}
-use Rattle.tree.specs.Refuse.{Outcome, gives, returned, left, no_match}
+use Rattle.tree.specs.Refuse.{gives, returned, left, no_match}
 use Rattle.build.specs.Entries.{building}
-use Rattle.search.specs.declared.Nearest.{Nearest}
 use Rattle.search.specs.declared.Nearest.TheVariants.{Found, Nothing}
 use Rattle.search.specs.Search.{bounded, unbounded}
 use Rattle.lists.specs.Entry.{indices_in, squares_in}
@@ -15,8 +14,6 @@ use Rattle.radius.specs.Entries.{radius_listing}
 use Rattle.matching.specs.declared.Limit.TheVariants.{At}
 use Rattle.matching.specs.Limit.{bound_of}
 use Rattle.matching.specs.Matching.{match_in}
-use Rattle.sums.specs.declared.Vector3d.{Vector3d}
-use Rattle.frame.specs.declared.LocalFrame.{LocalFrame}
 use Rattle.frame.specs.Entries.{frame_in}
 use Rattle.frame.specs.Frame.{local_point}
 

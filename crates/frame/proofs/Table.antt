@@ -14,8 +14,6 @@ use Rattle.space.specs.declared.Point3f.{Point3f}
 use Rattle.tree.specs.Cloud.{points, finite_point}
 use Rattle.tree.specs.Refuse.{refused, gives}
 use Rattle.frame.specs.declared.LocalFrame.{LocalFrame}
-use Rattle.frame.specs.declared.CloudScale.{CloudScale}
-use Rattle.frame.specs.declared.Moments.{Moments}
 use Rattle.frame.specs.declared.Scaled as S
 use Rattle.frame.specs.declared.Centred as C
 use Rattle.frame.specs.declared.Framed as F

@@ -1,4 +1,6 @@
 // Where a cloud sits and how big it is, and the frame next to the origin in which f32 keeps its digits.
+#![tactic(auto)]
+
 ghost use Rattle.std.specs.Prelude.{◌≡◌, ◌<◌, ◌≤◌};
 ghost use Rattle.tree.specs.Cloud.{finite_point};
 ghost use Rattle.tree.specs.Refuse.{most_points, count};
@@ -12,7 +14,7 @@ use sums::Vector3d;
 use tree::KdTree;
 
 // What is added up over the finite points of a cloud.
-#[derive(Drop)]
+#[derive(Clone, Copy)]
 pub struct Moments {
     pub count: u32,
     pub sum: Vector3d,
@@ -20,32 +22,32 @@ pub struct Moments {
 }
 
 // The centroid of a cloud's finite points, and their root mean squared distance from it.
-#[derive(Drop)]
+#[derive(Clone, Copy)]
 pub struct CloudScale {
     pub centroid: Point3f,
     pub radius: f32,
 }
 
 // A frame whose origin is a point of the world.
-#[derive(Drop)]
+#[derive(Clone, Copy)]
 pub struct LocalFrame {
     pub origin: Vector3d,
 }
 
 // What the entries answer.
-#[derive(Drop)]
+#[derive(Clone, Copy)]
 pub enum Scaled {
     Scale(CloudScale),
     Refused(u32),
 }
 
-#[derive(Drop)]
+#[derive(Clone, Copy)]
 pub enum Centred {
     Frame(LocalFrame),
     Refused(u32),
 }
 
-#[derive(Drop)]
+#[derive(Clone, Copy)]
 pub enum Framed {
     Frame(LocalFrame),
     NoFrame,

@@ -14,7 +14,7 @@ use lib.Ieee.{Float, binary32, fits, lt, le}
 use lib.Ieee.Bits.{is_true}
 use borrow.Author.Tests.{ltb-true, ltb-false}
 use Rattle.bits.specs.Constants.{infinite}
-use Rattle.bits.proofs.Compare.{number, plus, highest, lt-le-trans}
+use Rattle.bits.proofs.Compare.{plus, highest, lt-le-trans}
 use Rattle.bits.proofs.Keys.{key-le}
 use Rattle.space.specs.declared.Point3f.{Point3f}
 use Rattle.space.proofs.Under.{distance-fits, distance-plus}

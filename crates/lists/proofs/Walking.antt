@@ -19,7 +19,7 @@ use Rattle.walk.specs.declared.Group.{Group}
 use Rattle.walk.specs.declared.Waiting.{Waiting}
 use Rattle.walk.specs.declared.Node.{Node}
 use Rattle.walk.proofs.Stack.{slot_at, top_of, Going, finish, taken, left_out, kept, dropped, begun}
-use Rattle.lists.specs.Entry.{Entry, far, indices_in, squares_in}
+use Rattle.lists.specs.Entry.{Entry, indices_in, squares_in}
 use Rattle.lists.specs.KNearest.{below_kth, k_nearest}
 use Rattle.lists.specs.Shift.{limit_of, Offered}
 use Rattle.lists.specs.Entries.{Held}

@@ -1,19 +1,16 @@
 -- Demands 2 and 3 of the match list: each entry is the search's answer for its point, which meets them on the tree of the target.
-use Prim.Native.Nat.{ℕ, ◌^◌, ◌*◌, ◌≤◌, ◌<◌}
-use native.Mathlib.Omega.{arith}
-use mathlib.Core.Path.{◌≡◌, refl, sym, ap, ◌∙◌, subst}
+use Prim.Native.Nat.{ℕ, ◌^◌, ◌<◌}
+use mathlib.Core.Path.{◌≡◌, sym, ap, ◌∙◌, subst}
 use mathlib.Core.List.{List}
 use lib.Dec.{T}
 use lib.ListN.{length, get_or}
 use lib.Ieee.{Float, nan, binary32, fits}
 use borrow.Author.Tests.{eq-eqb}
 use Rattle.bits.specs.Constants.{infinite}
-use Rattle.space.specs.Exact.{Tame, exact}
+use Rattle.space.specs.Exact.{Tame}
 use Rattle.tree.specs.Refuse.{count, no_match}
 use Rattle.tree.specs.Slots.{point_at}
-use Rattle.search.specs.declared.Nearest.{Nearest}
-use Rattle.search.specs.declared.Nearest.TheVariants.{Found, Nothing}
-use Rattle.search.specs.Search.{searched}
+use Rattle.search.specs.declared.Nearest.TheVariants.{Nothing}
 use Rattle.search.specs.Demands.{IsTree, near_first, LeastBelow, Demand2}
 use Rattle.search.proofs.Demand2.{demand2}
 use Rattle.search.proofs.Demand3.{demand3}

@@ -1,6 +1,5 @@
 -- Each entry's promise fixes its result and every lent number afterwards: two outcomes that it allows are the same.
 use Prim.Native.Nat.{ℕ}
-use native.Mathlib.Omega.{arith}
 use mathlib.Core.Path.{◌≡◌, refl, sym, ◌∙◌}
 use mathlib.Core.List.{List}
 use lib.Ieee.{Float}

@@ -1,11 +1,11 @@
 -- Every entry that matching writes is no match or names a target point, on any slots: an answer's index is its seed's, or one held in the tree.
-use Prim.Native.Nat.{ℕ, zero, suc, ◌+◌, ◌≤◌, ◌<◌}
+use Prim.Native.Nat.{ℕ, suc, ◌+◌, ◌<◌}
 use native.Mathlib.Nat.{add-zero, zero-add, add-suc, suc-add}
 use native.Mathlib.Omega.{arith}
 use mathlib.Core.Path.{◌≡◌, refl, sym, ap, ◌∙◌, subst}
 use mathlib.Core.Bool.{Bool, true, false, not, ◌&&◌, cond, and-false}
 use mathlib.Core.List.Memᴰ
-use mathlib.Core.List.{List, [], ◌∷◌, ◌++◌, Memᴰ}
+use mathlib.Core.List.{List, [], ◌∷◌, Memᴰ}
 use lib.Dec.{ltb, eqb}
 use lib.ListN.{length, drop, get_or}
 use lib.Ieee.{Float, lt}
@@ -14,7 +14,7 @@ use Rattle.space.specs.declared.Point3f.{Point3f}
 use Rattle.space.specs.Distance.{distance_squared}
 use Rattle.tree.specs.Refuse.{count, no_match, any_entry_outside, any_index_outside}
 use Rattle.tree.specs.Slots.{Slot, slots, point_at}
-use Rattle.tree.specs.Part.{Part, empty, split, laid, part_of, lent}
+use Rattle.tree.specs.Part.{Part, empty, split, laid, lent}
 use Rattle.tree.specs.Grow.{next_axis}
 use Rattle.tree.specs.Walk.{walk}
 use Rattle.tree.proofs.Slots.{slots_length}

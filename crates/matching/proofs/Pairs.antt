@@ -1,13 +1,13 @@
 -- Laws of the pair list: one match entry more.
-use Prim.Native.Nat.{ℕ, zero, suc, ◌+◌, ◌≤◌, ◌<◌}
-use native.Mathlib.Nat.{add-zero, zero-add, add-suc, suc-add, add-sub_of_le}
+use Prim.Native.Nat.{ℕ, suc, ◌+◌, ◌≤◌, ◌<◌}
+use native.Mathlib.Nat.{add-zero, zero-add, add-suc, suc-add}
 use native.Mathlib.Omega.{arith}
 use mathlib.Core.Path.{◌≡◌, refl, sym, ap, ◌∙◌, subst}
 use mathlib.Core.Bool.{Bool, true, false, cond}
 use mathlib.Core.List.{List, [], ◌∷◌, ◌++◌, append-nil, map}
 use lib.Dec.{eqb}
-use lib.ListN.{length, take, drop, set, get_or, length-append, take-append-drop, length-drop, length-map}
-use lib.Seq.{take-suc, drop-cons, set-append_seam, length-take-le, append_snoc}
+use lib.ListN.{length, take, drop, set, get_or, length-append, take-append-drop, length-map}
+use lib.Seq.{take-suc, length-take-le}
 use borrow.Author.Tests.{eq-eqb, ne_eqb}
 use Rattle.tree.specs.Refuse.{no_match, overwrite}
 use Rattle.matching.specs.Pairs.{Pair, pair, pairs_from, pairs}

@@ -78,7 +78,7 @@ record Table : Type 0 where
   seeds : (seed_of K (at i i) no_match ≡ Nothing) × (seed_of K (at i i) 0 ≡ Found 0 i) × (seed_of K (at i i) 3 ≡ Found 3 (fin false 17 (pos 0)))
   entries : (match_of (Found 7 i) ≡ 7) × (match_of Nothing ≡ 4294967295)
   -- each source point by itself: (1, 1, 0), a NaN, (2, 0, 0)
-  in_order : in-K (i ∷ i ∷ o ∷ nan ∷ o ∷ o ∷ ii ∷ o ∷ o ∷ []) Unlimited (no_match ∷ no_match ∷ no_match ∷ []) ≡ gives (0 ∷ no_match ∷ 2 ∷ [])
+  in-order : in-K (i ∷ i ∷ o ∷ nan ∷ o ∷ o ∷ ii ∷ o ∷ o ∷ []) Unlimited (no_match ∷ no_match ∷ no_match ∷ []) ≡ gives (0 ∷ no_match ∷ 2 ∷ [])
   -- examples 5 and 6 through matching: a seed stays unless a point is strictly nearer, and one at a NaN does not
   unseeded : in-K on_half Unlimited (no_match ∷ []) ≡ gives (0 ∷ [])
   seeded : in-K on_half Unlimited (1 ∷ []) ≡ gives (1 ∷ [])
@@ -124,7 +124,7 @@ table =
       limits-else = (refl, refl, refl, refl, refl, refl);
       seeds = (refl, refl, refl);
       entries = (refl, refl);
-      in_order = refl;
+      in-order = refl;
       unseeded = refl;
       seeded = refl;
       seed-farther = refl;

@@ -1,4 +1,6 @@
 // Which target point each source point belongs to: the limit, matching with seeds, the pair list, and a target point as a part of its cloud.
+#![tactic(auto)]
+
 ghost use Rattle.std.specs.Prelude.{◌||◌, ◌≡◌, ◌+◌, ◌*◌, ◌<◌, ◌≤◌, length, get_or, set};
 ghost use Rattle.search.specs.Search.{searched};
 ghost use Rattle.tree.specs.Refuse.{no_match, overwrite, gives, ragged, uneven, mismatched, too_many, any_entry_outside, any_index_outside};
@@ -14,21 +16,21 @@ use space::Point3f;
 use tree::KdTree;
 
 // A limit on the distance of a match.
-#[derive(Drop)]
+#[derive(Clone, Copy)]
 pub enum Limit {
     Unlimited,
     At(f32),
 }
 
 // What the pair list returns: a refusal, or how many pairs it wrote.
-#[derive(Drop)]
+#[derive(Clone, Copy)]
 pub enum Paired {
     Refused(u32),
     Wrote(usize),
 }
 
 // What matching returns: a refusal, or that the match list holds the matches.
-#[derive(Drop)]
+#[derive(Clone, Copy)]
 pub enum Matched {
     Refused(u32),
     Done,

@@ -1,17 +1,17 @@
 -- The loop that gathers: the kit's laws over the list of what was found, beside what the lent lists hold of it. No more is gathered than there are slots. Assumes nothing.
-use mathlib.Core.Path.{◌≡◌, refl, sym, ap, ap₂, ◌∙◌, subst}
+use mathlib.Core.Path.{◌≡◌, refl, sym, ap, ◌∙◌, subst}
 use mathlib.Core.Bool.{Bool, true, false, cond}
 use mathlib.Core.List.{List, [], ◌∷◌, ◌++◌, map, map-append}
-use Prim.Native.Nat.{ℕ, zero, suc, ◌+◌, ◌-◌, ◌*◌, ◌≤◌, ◌<◌}
+use Prim.Native.Nat.{ℕ, suc, ◌+◌, ◌-◌, ◌≤◌, ◌<◌}
 use native.Mathlib.Numerals.{add-one}
 use native.Mathlib.Omega.{arith}
-use lib.ListN.{length, get_or, set, take, drop, length-append, length-map, length-set, length-take}
+use lib.ListN.{length, get_or, set, take, drop, length-append, length-map, length-set}
 use lib.Seq.{slice, take-suc-set, drop-set-lt, drop-drop}
 use lib.Ieee.{Float, le}
 use Rattle.space.specs.declared.Point3f.{Point3f}
 use Rattle.space.specs.Distance.{distance_squared, square}
 use Rattle.tree.specs.Slots.{Slot, point_at, slots}
-use Rattle.tree.specs.Part.{Part, empty, split, laid, lent}
+use Rattle.tree.specs.Part.{Part, empty, split, laid}
 use Rattle.tree.specs.Grow.{next_axis}
 use Rattle.tree.specs.Levels.{levels}
 use Rattle.tree.specs.Walk.{walk}
@@ -26,7 +26,6 @@ use Rattle.lists.specs.Entry.{Entry, entry, indices_in, squares_in}
 use Rattle.lists.specs.Radius.{within, gather, plane_within}
 use Rattle.lists.specs.Entries.{Held}
 use Rattle.lists.proofs.Offering.{Front, front-start, front-end, Taken}
-use Rattle.radius.specs.Pairs.{pair}
 use Rattle.radius.specs.Near.{counting, numbered, gathered}
 use Rattle.radius.specs.Gather.{Kept}
 use Rattle.radius.proofs.Found.{found, parts, one, walk-found}

@@ -2,16 +2,16 @@
 use mathlib.Core.Path.{◌≡◌, refl, sym, ap, ap₂, ◌∙◌, subst}
 use mathlib.Core.Bool.{Bool, true, false, cond}
 use mathlib.Core.List.{List, [], ◌∷◌, ◌++◌, map, map-append}
-use Prim.Native.Nat.{ℕ, zero, suc, ◌+◌, ◌-◌, ◌/◌, ◌≤◌, ◌<◌}
+use Prim.Native.Nat.{ℕ, zero, suc, ◌+◌, ◌/◌, ◌≤◌, ◌<◌}
 use native.Mathlib.Nat.{le_of_suc-le-suc, not-suc-le-zero}
 use native.Mathlib.Omega.{arith}
 use lib.Dec.{leb}
 use lib.ListN.{length, get_or, take, drop, length-map, length-take, length-drop}
 use lib.Seq.{length-take-le}
-use lib.Ieee.{Float, nan}
+use lib.Ieee.{Float}
 use Rattle.space.specs.declared.Point3f.{Point3f}
 use Rattle.tree.specs.Slots.{Slot, slot, point_at, slots}
-use Rattle.tree.specs.Part.{Part, empty, split, laid, part_of, lent}
+use Rattle.tree.specs.Part.{Part, split, laid, part_of, lent}
 use Rattle.tree.specs.Sort.{insert, sort}
 use Rattle.tree.specs.Walk.{walk}
 use Rattle.tree.proofs.Slots.{slots_length}

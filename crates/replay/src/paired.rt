@@ -2,12 +2,12 @@
 ghost use Rattle.std.specs.Prelude.{◌≤◌};
 
 use matching::{Limit, Matched, Paired};
-use stream::Counts;
+use stream::Answers;
 use sums::{Collected, CorrespondenceStats};
 
-fn read_limit(counts: &mut Counts) -> Limit {
-    let limited = stream::word(counts);
-    let d = stream::float(counts);
+fn read_limit(answers: &mut Answers) -> Limit {
+    let limited = stream::word(answers);
+    let d = stream::float(answers);
     if limited == 1 {
         Limit::At(d)
     } else {
@@ -16,33 +16,33 @@ fn read_limit(counts: &mut Counts) -> Limit {
 }
 
 // A limit, whose bound is compared.
-fn limit(counts: &mut Counts) -> Limit {
-    let limit = read_limit(counts);
-    stream::tally(counts, stream::LIMIT);
-    stream::same_float(matching::max_distance_sq(limit), counts);
+fn limit(answers: &mut Answers) -> Limit {
+    let limit = read_limit(answers);
+    stream::tally(answers, stream::LIMIT);
+    stream::same_float(matching::max_distance_sq(limit), answers);
     limit
 }
 
-pub fn limits(counts: &mut Counts) {
-    let n = stream::upto(1024, counts);
+pub fn limits(answers: &mut Answers) {
+    let n = stream::upto(1024, answers);
     let mut i: usize = 0;
     while i < n {
-        limit(counts);
+        limit(answers);
         i += 1;
     }
 }
 
 // How many pairs were written; none and a difference where it was refused.
-fn pairs(paired: Paired, counts: &mut Counts) -> usize
+fn pairs(paired: Paired, answers: &mut Answers) -> usize
     ensures { result ≤ 1025 }
 {
-    stream::tally(counts, stream::PAIRS);
+    stream::tally(answers, stream::PAIRS);
     if let Paired::Wrote(n) = paired {
         if n <= stream::POINTS {
             return n;
         }
     }
-    stream::tally(counts, stream::DIFFER);
+    stream::tally(answers, stream::DIFFER);
     0
 }
 
@@ -51,59 +51,59 @@ fn same_list(
     sources: &[u32; stream::POINTS],
     targets: &[u32; stream::POINTS],
     n: usize,
-    counts: &mut Counts,
+    answers: &mut Answers,
 )
     requires { n ≤ 1025 }
 {
-    stream::same_word(n as u32, counts);
+    stream::same_word(n as u32, answers);
     let mut i: usize = 0;
     while i < n {
-        stream::same_index(sources[i], counts);
-        stream::same_index(targets[i], counts);
+        stream::same_index(sources[i], answers);
+        stream::same_index(targets[i], answers);
         i += 1;
     }
 }
 
-fn same_pairs(matches: &[u32], counts: &mut Counts) {
+fn same_pairs(matches: &[u32], answers: &mut Answers) {
     let mut sources = [0u32; stream::POINTS];
     let mut targets = [0u32; stream::POINTS];
     let paired = matching::correspondence_pairs(matches, &mut sources, &mut targets);
-    let n = pairs(paired, counts);
-    same_list(&sources, &targets, n, counts);
+    let n = pairs(paired, answers);
+    same_list(&sources, &targets, n, answers);
 }
 
-fn same_sums(s: CorrespondenceStats, counts: &mut Counts) {
-    stream::same_vector(s.sum_source, counts);
-    stream::same_vector(s.sum_target, counts);
-    stream::same_vector(s.sum_outer_x, counts);
-    stream::same_vector(s.sum_outer_y, counts);
-    stream::same_vector(s.sum_outer_z, counts);
-    stream::same_double(s.sum_sq_error, counts);
-    stream::tally(counts, stream::MSE);
-    stream::same_float(s.mse(), counts);
+fn same_sums(s: CorrespondenceStats, answers: &mut Answers) {
+    stream::same_vector(s.sum_source, answers);
+    stream::same_vector(s.sum_target, answers);
+    stream::same_vector(s.sum_outer_x, answers);
+    stream::same_vector(s.sum_outer_y, answers);
+    stream::same_vector(s.sum_outer_z, answers);
+    stream::same_double(s.sum_sq_error, answers);
+    stream::tally(answers, stream::MSE);
+    stream::same_float(s.mse(), answers);
 }
 
 // The count, and the sums where they can be equal to the Rust's.
-fn collect(source: &[f32], target: &[f32], matches: &[u32], counts: &mut Counts) {
-    stream::tally(counts, stream::SUMS);
-    let comparable = stream::word(counts);
+fn collect(source: &[f32], target: &[f32], matches: &[u32], answers: &mut Answers) {
+    stream::tally(answers, stream::SUMS);
+    let comparable = stream::word(answers);
     match CorrespondenceStats::collect(source, target, matches) {
         Collected::Sums(s) => {
-            stream::same_word(s.count, counts);
+            stream::same_word(s.count, answers);
             if comparable == 1 {
-                same_sums(s, counts);
+                same_sums(s, answers);
             }
         }
-        Collected::Refused(_) => stream::tally(counts, stream::DIFFER),
+        Collected::Refused(_) => stream::tally(answers, stream::DIFFER),
     }
 }
 
-fn done(matched: Matched, counts: &mut Counts) {
+fn done(matched: Matched, answers: &mut Answers) {
     let good = match matched {
         Matched::Done => true,
         Matched::Refused(_) => false,
     };
-    stream::judge(counts, stream::MATCHING, good);
+    stream::judge(answers, stream::MATCHING, good);
 }
 
 fn match_list(
@@ -113,16 +113,16 @@ fn match_list(
     indices: &[u32],
     limit: Limit,
     list: &mut [u32],
-    counts: &mut Counts,
+    answers: &mut Answers,
 ) {
-    stream::read_words(list, counts);
+    stream::read_words(list, answers);
     let matched = matching::find_correspondences_seeded(
         source, target, coords, indices, limit, list,
     );
-    done(matched, counts);
-    stream::same_indices(list, counts);
-    same_pairs(list, counts);
-    collect(source, target, list, counts);
+    done(matched, answers);
+    stream::same_indices(list, answers);
+    same_pairs(list, answers);
+    collect(source, target, list, answers);
 }
 
 fn match_with(
@@ -132,7 +132,7 @@ fn match_with(
     indices: &[u32],
     limit: Limit,
     n: usize,
-    counts: &mut Counts,
+    answers: &mut Answers,
 )
     requires { n ≤ 1025 }
 {
@@ -144,18 +144,24 @@ fn match_with(
         indices,
         limit,
         &mut list[..n],
-        counts,
+        answers,
     );
 }
 
-fn match_clouds(source: &mut [f32], target: &mut [f32], limit: Limit, n: usize, counts: &mut Counts)
+fn match_clouds(
+    source: &mut [f32],
+    target: &mut [f32],
+    limit: Limit,
+    n: usize,
+    answers: &mut Answers,
+)
     requires { n ≤ 1025 }
 {
-    stream::read_floats(source, counts);
-    stream::read_floats(target, counts);
+    stream::read_floats(source, answers);
+    stream::read_floats(target, answers);
     let mut coords = [0.0f32; stream::NUMBERS];
     let mut indices = [0u32; stream::POINTS];
-    let m = asked::slots(build::build(target, &mut coords, &mut indices), counts);
+    let m = asked::slots(build::build(target, &mut coords, &mut indices), answers);
     let e = 3 * m;
     match_with(
         source,
@@ -164,17 +170,17 @@ fn match_clouds(source: &mut [f32], target: &mut [f32], limit: Limit, n: usize, 
         &indices[..m],
         limit,
         n,
-        counts,
+        answers,
     );
 }
 
-pub fn replay(counts: &mut Counts) {
-    let limit = limit(counts);
-    let n = stream::upto(stream::POINTS, counts);
-    let k = stream::upto(stream::POINTS, counts);
+pub fn replay(answers: &mut Answers) {
+    let limit = limit(answers);
+    let n = stream::upto(stream::POINTS, answers);
+    let k = stream::upto(stream::POINTS, answers);
     let mut source = [0.0f32; stream::NUMBERS];
     let mut target = [0.0f32; stream::NUMBERS];
     let s = 3 * n;
     let t = 3 * k;
-    match_clouds(&mut source[..s], &mut target[..t], limit, n, counts);
+    match_clouds(&mut source[..s], &mut target[..t], limit, n, answers);
 }

@@ -6,7 +6,7 @@ ghost use Rattle.scan.specs.Cases.{header_of};
 ghost use Rattle.scan.specs.Promises.{Checked};
 
 // What the header says: a refusal, or how many points the source and the target have.
-#[derive(Drop)]
+#[derive(Clone, Copy)]
 pub enum Header {
     Refused(u32),
     Points(usize, usize),

@@ -1,4 +1,6 @@
 // The matching program, as one function from the bytes of its input to the bytes of its output.
+#![tactic(auto)]
+
 mod input;
 mod lines;
 

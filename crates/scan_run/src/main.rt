@@ -1,18 +1,21 @@
 // The matching program's function run on inputs that are refused, on single pairs at the edges of the numbers, on the longest input and on one byte more: what is written is compared with the file `stdout`.
-use libc::STDOUT_FILENO;
+#![tactic(auto)]
+
+use std::io;
 
 // Writes what the program would write.
-fn show(bytes: &[u8]) {
+fn show(rt: &impl Print, bytes: &[u8]) -> io::Result<()> {
     let mut out = [0u8; scan::OUT];
     let k = scan::answer(bytes, &mut out);
-    io::write_all(STDOUT_FILENO, &out[..k]);
+    rt.write_all(&out[..k])
 }
 
 // The same for the first n bytes.
-fn show_front(bytes: &[u8], n: usize) {
+fn show_front(rt: &impl Print, bytes: &[u8], n: usize) -> io::Result<()> {
     if n <= bytes.len() {
-        show(&bytes[..n]);
+        show(rt, &bytes[..n])?;
     }
+    Ok(())
 }
 
 // A u32 at a place, its lowest byte first.
@@ -37,26 +40,32 @@ fn put_header(bytes: &mut [u8], sources: u32, source_at: u32, targets: u32, targ
 }
 
 // A header alone.
-fn show_header(sources: u32, source_at: u32, targets: u32, target_at: u32) {
+fn show_header(
+    rt: &impl Print,
+    sources: u32,
+    source_at: u32,
+    targets: u32,
+    target_at: u32,
+) -> io::Result<()> {
     let mut bytes = [0u8; 16];
     put_header(&mut bytes, sources, source_at, targets, target_at);
-    show(&bytes);
+    show(rt, &bytes)
 }
 
 // One point in each cloud: the two offsets, and how many of 41 bytes are read.
-fn show_points(source_at: u32, target_at: u32, read: usize) {
+fn show_points(rt: &impl Print, source_at: u32, target_at: u32, read: usize) -> io::Result<()> {
     let mut bytes = [0u8; 41];
     put_header(&mut bytes, 1, source_at, 1, target_at);
-    show_front(&bytes, read);
+    show_front(rt, &bytes, read)
 }
 
 // One point in each cloud, by the bits of its first coordinate.
-fn show_pair(source: u32, target: u32) {
+fn show_pair(rt: &impl Print, source: u32, target: u32) -> io::Result<()> {
     let mut bytes = [0u8; 40];
     put_header(&mut bytes, 1, 16, 1, 28);
     put_word(&mut bytes, 16, source);
     put_word(&mut bytes, 28, target);
-    show(&bytes);
+    show(rt, &bytes)
 }
 
 // The next number of a sequence.
@@ -87,37 +96,40 @@ fn put_numbers(bytes: &mut [u8], seed: u32) {
 }
 
 // The longest input, and one byte more.
-fn show_longest() {
+fn show_longest(rt: &impl Print) -> io::Result<()> {
     let mut bytes = [0u8; scan::IN];
     put_header(&mut bytes, 1024, 16, 1024, 12304);
     put_numbers(&mut bytes, 1);
-    show_front(&bytes, 24592);
-    show(&bytes);
+    show_front(rt, &bytes, 24592)?;
+    show(rt, &bytes)
 }
 
-fn main() {
-    show(b"");
-    show(b"\xff\xff\xff\xff\xff\xff\xff\xff\xff\xff\xff\xff\xff\xff\xff");
-    show_header(1025, 0, 0, 0);
-    show_header(0, 0, 1025, 0);
-    show_header(4294967295, 16, 1, 28);
-    show_header(1024, 16, 1024, 12304);
-    show_header(0, 0, 1, 0);
-    show_header(1, 0, 0, 0);
-    show_header(0, 16, 0, 16);
-    show_points(17, 28, 40);
-    show_points(16, 29, 40);
-    show_points(16, 28, 39);
-    show_points(16, 28, 41);
-    show_points(16, 28, 40);
-    show_points(28, 16, 40);
-    show_points(16, 28, 16);
-    show_pair(0x7fc0_0000, 0);
-    show_pair(0, 0x7fc0_0000);
-    show_pair(0xff80_0000, 0xff80_0000);
-    show_pair(0x7f7f_ffff, 0);
-    show_pair(0xdf7f_ffff, 0x8000_0000);
-    show_pair(0x1a00_0000, 0);
-    show_pair(0x1a80_0000, 0);
-    show_longest();
+fn main(rt: HostRuntime) -> io::Result<()> {
+    show(&rt, b"")?;
+    show(
+        &rt,
+        b"\xff\xff\xff\xff\xff\xff\xff\xff\xff\xff\xff\xff\xff\xff\xff",
+    )?;
+    show_header(&rt, 1025, 0, 0, 0)?;
+    show_header(&rt, 0, 0, 1025, 0)?;
+    show_header(&rt, 4294967295, 16, 1, 28)?;
+    show_header(&rt, 1024, 16, 1024, 12304)?;
+    show_header(&rt, 0, 0, 1, 0)?;
+    show_header(&rt, 1, 0, 0, 0)?;
+    show_header(&rt, 0, 16, 0, 16)?;
+    show_points(&rt, 17, 28, 40)?;
+    show_points(&rt, 16, 29, 40)?;
+    show_points(&rt, 16, 28, 39)?;
+    show_points(&rt, 16, 28, 41)?;
+    show_points(&rt, 16, 28, 40)?;
+    show_points(&rt, 28, 16, 40)?;
+    show_points(&rt, 16, 28, 16)?;
+    show_pair(&rt, 0x7fc0_0000, 0)?;
+    show_pair(&rt, 0, 0x7fc0_0000)?;
+    show_pair(&rt, 0xff80_0000, 0xff80_0000)?;
+    show_pair(&rt, 0x7f7f_ffff, 0)?;
+    show_pair(&rt, 0xdf7f_ffff, 0x8000_0000)?;
+    show_pair(&rt, 0x1a00_0000, 0)?;
+    show_pair(&rt, 0x1a80_0000, 0)?;
+    show_longest(&rt)
 }

@@ -1,5 +1,5 @@
 -- What an entry promises beyond its rule follows from the rule: the answer that it holds is the search's, and the search meets the demands on the tree of a cloud. Assumes nothing.
-use mathlib.Core.Path.{◌≡◌, refl, sym, ap, ◌∙◌, subst}
+use mathlib.Core.Path.{◌≡◌, refl, sym, ap, ◌∙◌}
 use mathlib.Core.Bool.{Bool, true, false}
 use mathlib.Core.List.{List}
 use Prim.Native.Nat.{ℕ, ◌^◌, ◌<◌}
@@ -9,11 +9,11 @@ use lib.ListN.{length, get_or}
 use lib.Ieee.{Float, nan, binary32, fits}
 use Rattle.bits.specs.Constants.{infinite}
 use Rattle.space.specs.declared.Point3f.{Point3f}
-use Rattle.tree.specs.Refuse.{Outcome, refused, gives, refuse, uneven, too_many, on_tree}
+use Rattle.tree.specs.Refuse.{gives, refuse, uneven, too_many}
 use Rattle.search.specs.Search.{searched, outcome_of, bounded, unbounded}
 use Rattle.search.specs.Demands.{MeetsDemand2, MeetsDemand3}
 use Rattle.search.specs.declared.Nearest.{Nearest}
-use Rattle.search.specs.declared.Nearest.TheVariants.{Found, Nothing}
+use Rattle.search.specs.declared.Nearest.TheVariants.{Nothing}
 use Rattle.search.specs.declared.Searched.{Searched}
 use Rattle.search.specs.declared.Searched.TheVariants.{Answer}
 use Rattle.search.proofs.Demand2.{demand2}

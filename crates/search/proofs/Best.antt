@@ -8,7 +8,6 @@ use lib.Ieee.Bits.{is_true, is_false}
 use Rattle.bits.proofs.Compare.{lt_trans}
 use Rattle.space.specs.declared.Point3f.{Point3f}
 use Rattle.space.specs.Distance.{distance_squared}
-use Rattle.tree.specs.Slots.{Slot}
 use Rattle.tree.proofs.Walk.{Falling}
 use Rattle.search.specs.Search.{limit, first_best, replaces, nearer, visit, enters}
 use Rattle.search.specs.declared.Held.{Held}

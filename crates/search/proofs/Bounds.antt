@@ -19,7 +19,6 @@ use Rattle.tree.specs.Walk.{walk}
 use Rattle.tree.proofs.Walk.{goes_left, plane, entered, walk_step, walk-empty}
 use Rattle.walk.proofs.Stack.{entered-idle}
 use Rattle.search.specs.Search.{visit, enters, walked, searched}
-use Rattle.search.specs.declared.Nearest.{Nearest}
 use Rattle.search.specs.declared.Nearest.TheVariants.{Found, Nothing}
 use Rattle.search.proofs.Best.{no}
 

@@ -1,20 +1,19 @@
 -- On the tree of a cloud of tame points the least computed distance is the exact least, but for one part in 2 ^ 20. Assumes nothing.
 use mathlib.Core.Path.{◌≡◌, refl, sym, ap, ◌∙◌, subst}
-use mathlib.Core.Bool.{Bool, true, false, ◌&&◌}
+use mathlib.Core.Bool.{true, false}
 use mathlib.Core.List.Permᴰ
 use mathlib.Core.List.{List, ◌∷◌, Memᴰ}
-use Prim.Native.Nat.{ℕ, ◌*◌, ◌≤◌, ◌<◌}
+use Prim.Native.Nat.{ℕ, ◌<◌}
 use lib.Dec.{T}
 use lib.Ieee.{Float, nan, inf, fin, lt}
-use lib.Ieee.Bits.{is_true}
 use Rattle.bits.specs.Constants.{infinite}
 use Rattle.bits.specs.Finite.{finite}
 use Rattle.space.specs.declared.Point3f.{Point3f}
 use Rattle.space.specs.Distance.{distance_squared}
-use Rattle.space.specs.Exact.{tame, Tame, exact}
+use Rattle.space.specs.Exact.{tame, Tame}
 use Rattle.space.proofs.Accuracy.{dist-finite, nearest-accurate}
 use Rattle.tree.specs.Refuse.{count}
-use Rattle.tree.specs.Slots.{Slot, slot, point_at}
+use Rattle.tree.specs.Slots.{slot, point_at}
 use Rattle.tree.specs.Cloud.{finite_point, tree_of}
 use Rattle.tree.proofs.Perm.{perm-mem}
 use Rattle.tree.proofs.Walk.{order-perm}

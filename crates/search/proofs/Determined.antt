@@ -12,7 +12,6 @@ use lib.Ieee.Bits.{is_true}
 use Rattle.bits.proofs.Compare.{number, lt-number-l, le_of_not_lt}
 use Rattle.space.specs.declared.Point3f.{Point3f}
 use Rattle.space.specs.Distance.{distance_squared}
-use Rattle.tree.specs.Refuse.{Outcome, refused, gives}
 use Rattle.tree.specs.Slots.{Slot}
 use Rattle.search.specs.Search.{outcome_of, bounded, unbounded}
 use Rattle.search.specs.Demands.{NoneBelow, FirstLeast, LeastBelow, Demand2}

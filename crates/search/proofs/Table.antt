@@ -1,12 +1,12 @@
 -- A table over the definitions: document 01's examples 2, 3, 5, 6 and 7, seeds and bounds at their edges, and slots that are no tree. Every row is by computation.
 use mathlib.Core.Path.{◌≡◌, refl, sym, ap, subst, ◌∙◌}
-use mathlib.Core.Bool.{true, false, true≢false}
+use mathlib.Core.Bool.{false, true≢false}
 use mathlib.Core.List.Memᴰ
 use mathlib.Core.List.{List, [], ◌∷◌, ◌++◌, Memᴰ}
 use Prim.Native.Nat.{ℕ, zero, suc, ◌<◌, ◌≤◌, ◌*◌}
 use native.Mathlib.Omega.{arith}
 use lib.IntN.{pos, negsuc}
-use lib.Ieee.{Float, nan, inf, fin, add, sub, mul, neg, sum, round, le, lt, eq}
+use lib.Ieee.{Float, nan, fin, add, sub, mul, neg, sum, round, le, lt, eq}
 use Rattle.bits.specs.Constants.{infinite}
 use Rattle.space.specs.declared.Point3f.{Point3f}
 use Rattle.space.specs.Distance.{distance_squared, apart, left_is_near}

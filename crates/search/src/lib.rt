@@ -1,4 +1,6 @@
 // Bounded and unbounded search on the slots of a tree, which are lent as two slices.
+#![tactic(auto)]
+
 ghost use Rattle.std.specs.Prelude.{◌≡◌, ◌*◌, ◌<◌, ◌≤◌, length, get_or};
 ghost use Rattle.bits.specs.Constants.{infinite};
 ghost use Rattle.search.specs.Search.{limit, first_best, nearer, walked, outcome_of, bounded, unbounded};
@@ -9,14 +11,14 @@ use tree::KdTree;
 use walk::{Group, Waiting};
 
 // An index with its squared distance, or nothing: the answer, the best so far, and the seed.
-#[derive(Drop)]
+#[derive(Clone, Copy)]
 pub enum Nearest {
     Found(u32, f32),
     Nothing,
 }
 
 // What an entry answers: the answer of the search, or the number of the refusal.
-#[derive(Drop)]
+#[derive(Clone, Copy)]
 pub enum Searched {
     Answer(Nearest),
     Refused(u32),
@@ -49,7 +51,7 @@ impl Nearest {
 }
 
 // The best so far beside the distance that a slot has to be strictly below.
-#[derive(Drop)]
+#[derive(Clone, Copy)]
 pub struct Held {
     pub best: Nearest,
     pub limit: f32,

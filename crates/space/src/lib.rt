@@ -1,9 +1,11 @@
 // Points of space by value, and what the search computes of them.
+#![tactic(auto)]
+
 ghost use Rattle.std.specs.Prelude.{◌≡◌};
 ghost use Rattle.space.specs.Distance.{on, distance_squared};
 
 // A point of space, or a query.
-#[derive(Drop)]
+#[derive(Clone, Copy)]
 pub struct Point3f {
     pub x: f32,
     pub y: f32,

@@ -1,7 +1,8 @@
-// The list on standard input, a word at a time, and what is counted of it.
+// A list that was read whole, a word at a time, and what is counted of it.
+#![tactic(auto)]
+
 ghost use Rattle.std.specs.Prelude.{◌<◌, ◌≤◌};
 
-use libc::STDIN_FILENO;
 use space::Point3f;
 use sums::Vector3d;
 
@@ -56,19 +57,36 @@ pub const VALUES: usize = 18;
 
 pub const INDICES: usize = 19;
 
-pub fn tally(counts: &mut Counts, k: usize) {
+// What is left of the list, and the counts so far.
+#[derive(Drop)]
+pub struct Answers<'a> {
+    rest: &'a [u8],
+    pub counts: Counts,
+}
+
+impl<'a> Answers<'a> {
+    // The whole list, of which nothing is counted yet.
+    pub fn new(list: &'a [u8]) -> Answers<'a> {
+        Answers {
+            rest: list,
+            counts: [0; 20],
+        }
+    }
+}
+
+pub fn tally(answers: &mut Answers, k: usize) {
     if k < 20 {
-        counts[k] = std::num::wrapping_add_u64(counts[k], 1);
+        answers.counts[k] = answers.counts[k].wrapping_add(1);
     }
 }
 
 // One more of kind k, and a difference if it is not the same.
-pub fn judge(counts: &mut Counts, k: usize, same: bool) {
-    tally(counts, k);
+pub fn judge(answers: &mut Answers, k: usize, same: bool) {
+    tally(answers, k);
     if same {
         return;
     }
-    tally(counts, DIFFER);
+    tally(answers, DIFFER);
 }
 
 fn wide(b: u8) -> u32
@@ -82,108 +100,109 @@ fn joined(b: &[u8; 4]) -> u32 {
 }
 
 // The next word; where the list has ended, 0 and a difference.
-pub fn word(counts: &mut Counts) -> u32 {
+pub fn word(answers: &mut Answers) -> u32 {
+    let n = answers.rest.len().min(4);
+    let (front, rest) = answers.rest.split_at(n);
+    answers.rest = rest;
     let mut bytes = [0u8; 4];
-    let n = io::read_full(STDIN_FILENO, &mut bytes);
+    bytes[..n].copy_from_slice(front);
     if n != 4 {
-        tally(counts, DIFFER);
+        tally(answers, DIFFER);
     }
     joined(&bytes)
 }
 
 // What is left of the list is a difference.
-pub fn end(counts: &mut Counts) {
-    let mut bytes = [0u8; 4];
-    let n = io::read_full(STDIN_FILENO, &mut bytes);
-    if n != 0 {
-        tally(counts, DIFFER);
+pub fn end(answers: &mut Answers) {
+    if !answers.rest.is_empty() {
+        tally(answers, DIFFER);
     }
 }
 
-pub fn float(counts: &mut Counts) -> f32 {
-    bits::f32_from_bits(word(counts))
+pub fn float(answers: &mut Answers) -> f32 {
+    bits::f32_from_bits(word(answers))
 }
 
-pub fn point(counts: &mut Counts) -> Point3f {
-    let x = float(counts);
-    let y = float(counts);
-    let z = float(counts);
+pub fn point(answers: &mut Answers) -> Point3f {
+    let x = float(answers);
+    let y = float(answers);
+    let z = float(answers);
     Point3f { x, y, z }
 }
 
 // A number of things that follow; one over the most is a difference and stands for none.
-pub fn upto(most: usize, counts: &mut Counts) -> usize
+pub fn upto(most: usize, answers: &mut Answers) -> usize
     ensures { result ≤ most }
 {
-    let n = word(counts) as usize;
+    let n = word(answers) as usize;
     if n <= most {
         return n;
     }
-    tally(counts, DIFFER);
+    tally(answers, DIFFER);
     0
 }
 
-pub fn read_floats(out: &mut [f32], counts: &mut Counts) {
+pub fn read_floats(out: &mut [f32], answers: &mut Answers) {
     let mut i: usize = 0;
     while i < out.len() {
-        out[i] = float(counts);
+        out[i] = float(answers);
         i += 1;
     }
 }
 
-pub fn read_words(out: &mut [u32], counts: &mut Counts) {
+pub fn read_words(out: &mut [u32], answers: &mut Answers) {
     let mut i: usize = 0;
     while i < out.len() {
-        out[i] = word(counts);
+        out[i] = word(answers);
         i += 1;
     }
 }
 
-pub fn same_word(have: u32, counts: &mut Counts) {
-    let want = word(counts);
-    judge(counts, VALUES, have == want);
+pub fn same_word(have: u32, answers: &mut Answers) {
+    let want = word(answers);
+    judge(answers, VALUES, have == want);
 }
 
 // Bits compared, every NaN one pattern.
-pub fn same_float(have: f32, counts: &mut Counts) {
-    let want = bits::f32_to_bits(float(counts));
-    judge(counts, VALUES, bits::f32_to_bits(have) == want);
+pub fn same_float(have: f32, answers: &mut Answers) {
+    let want = bits::f32_to_bits(float(answers));
+    judge(answers, VALUES, bits::f32_to_bits(have) == want);
 }
 
-fn double(counts: &mut Counts) -> f64 {
-    let low = word(counts) as u64;
-    let high = word(counts) as u64;
+fn double(answers: &mut Answers) -> f64 {
+    let low = word(answers) as u64;
+    let high = word(answers) as u64;
     bits::f64_from_bits(low + 4294967296 * high)
 }
 
-pub fn same_double(have: f64, counts: &mut Counts) {
-    let want = bits::f64_to_bits(double(counts));
-    judge(counts, VALUES, bits::f64_to_bits(have) == want);
+pub fn same_double(have: f64, answers: &mut Answers) {
+    let want = bits::f64_to_bits(double(answers));
+    judge(answers, VALUES, bits::f64_to_bits(have) == want);
 }
 
-pub fn same_index(have: u32, counts: &mut Counts) {
-    let want = word(counts);
+pub fn same_index(have: u32, answers: &mut Answers) {
+    let want = word(answers);
     if want != ANY {
-        judge(counts, INDICES, have == want);
+        judge(answers, INDICES, have == want);
     }
 }
 
-pub fn same_point(p: Point3f, counts: &mut Counts) {
-    same_float(p.x, counts);
-    same_float(p.y, counts);
-    same_float(p.z, counts);
+pub fn same_point(p: Point3f, answers: &mut Answers) {
+    same_float(p.x, answers);
+    same_float(p.y, answers);
+    same_float(p.z, answers);
 }
 
-pub fn same_vector(v: Vector3d, counts: &mut Counts) {
-    same_double(v.x, counts);
-    same_double(v.y, counts);
-    same_double(v.z, counts);
+pub fn same_vector(v: Vector3d, answers: &mut Answers) {
+    same_double(v.x, answers);
+    same_double(v.y, answers);
+    same_double(v.z, answers);
 }
 
-pub fn same_indices(list: &[u32], counts: &mut Counts) {
+pub fn same_indices(list: &[u32], answers: &mut Answers) {
     let mut i: usize = 0;
     while i < list.len() {
-        same_index(list[i], counts);
+        same_index(list[i], answers);
         i += 1;
     }
 }

@@ -1,4 +1,6 @@
 // Sums over matched pairs in f64: what registration makes its next step from.
+#![tactic(auto)]
+
 ghost use Rattle.std.specs.Prelude.{◌≡◌, not, ◌&&◌, ◌+◌, ◌*◌, ◌<◌, ◌≤◌, min, eqb, ltb, length, get_or, drop, take};
 ghost use Rattle.tree.specs.Slots.{slot, point_at, slots};
 ghost use Rattle.tree.specs.Refuse.{no_match, any_entry_outside};
@@ -13,7 +15,7 @@ use space::Point3f;
 use tree::KdTree;
 
 // A vector of three f64.
-#[derive(Drop)]
+#[derive(Clone, Copy)]
 pub struct Vector3d {
     pub x: f64,
     pub y: f64,
@@ -21,7 +23,7 @@ pub struct Vector3d {
 }
 
 // Running sums over matched pairs: a row of the nine products for each coordinate of the source point.
-#[derive(Drop)]
+#[derive(Clone, Copy)]
 pub struct CorrespondenceStats {
     pub count: u32,
     pub sum_source: Vector3d,
@@ -33,7 +35,7 @@ pub struct CorrespondenceStats {
 }
 
 // What `collect` answers.
-#[derive(Drop)]
+#[derive(Clone, Copy)]
 pub enum Collected {
     Sums(CorrespondenceStats),
     Refused(u32),

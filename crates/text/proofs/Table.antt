@@ -1,6 +1,6 @@
 -- A table over the definitions: numbers as text at the ends of their lengths, and a text put into lent bytes. Every row is by computation.
 use mathlib.Core.Path.{◌≡◌, refl}
-use mathlib.Core.List.{List, [], ◌∷◌}
+use mathlib.Core.List.{[], ◌∷◌}
 use native.Mathlib.Omega.{arith}
 use Rattle.text.specs.Text.{letter, digits, places, decimal, hex8}
 use Rattle.text.specs.Puts.{Puts}

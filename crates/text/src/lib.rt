@@ -1,4 +1,6 @@
 // Text into lent bytes: each function writes from place `at` on and returns the place behind what it wrote.
+#![tactic(auto)]
+
 ghost use Rattle.std.specs.Prelude.{◌≡◌, ◌+◌, ◌<◌, ◌≤◌, length};
 ghost use Rattle.text.specs.Text as Text;
 ghost use Rattle.text.specs.Puts.{Puts};

@@ -1,4 +1,6 @@
 // The tree's constants, and what is read of clouds and match lists by more than one layer above.
+#![tactic(auto)]
+
 ghost use Rattle.std.specs.Prelude.{◌≡◌, ◌+◌, ◌*◌, ◌<◌, length};
 ghost use Rattle.tree.specs.Slots.{point_at};
 ghost use Rattle.tree.specs.Cloud.{finite_point};
@@ -8,7 +10,7 @@ ghost use Rattle.tree.specs.Levels.{levels};
 use space::Point3f;
 
 // A k-d tree is lent as two slices, three coordinates and one index to a slot; the type holds its constants.
-#[derive(Drop)]
+#[derive(Clone, Copy)]
 pub struct KdTree {
     pub len: u32,
 }

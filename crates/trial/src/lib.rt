@@ -1,6 +1,8 @@
 // What the test programs share, and no part of the library: a sequence of numbers; counts written in decimal and floats as their
 // bits, a blank before each.
-use libc::STDOUT_FILENO;
+#![tactic(auto)]
+
+use std::io;
 
 // The next number of a sequence.
 pub fn next(s: u32) -> u32 {
@@ -32,41 +34,31 @@ pub fn fill(out: &mut [f32], seed: u32) {
     }
 }
 
-pub fn line() {
-    io::write_all(STDOUT_FILENO, b"\n");
+pub fn line(rt: &impl Print) -> io::Result<()> {
+    println!(rt)
 }
 
-pub fn word(text: &[u8]) {
-    io::write_all(STDOUT_FILENO, b" ");
-    io::write_all(STDOUT_FILENO, text);
+pub fn word(rt: &impl Print, text: &str) -> io::Result<()> {
+    print!(rt; " {text}")
 }
 
-pub fn count(n: u64) {
-    io::write_all(STDOUT_FILENO, b" ");
-    io::print_decimal(STDOUT_FILENO, n);
-}
-
-fn wide(n: u32) -> u64 {
-    n as u64
+pub fn count(rt: &impl Print, n: u64) -> io::Result<()> {
+    print!(rt; " {n}")
 }
 
 // Every NaN is written as one word, since a NaN's bits are not fixed.
-pub fn bits_f32(x: f32) {
+pub fn bits_f32(rt: &impl Print, x: f32) -> io::Result<()> {
     if x != x {
-        word(b"nan");
-    } else {
-        let b = wide(f32::to_bits(x));
-        io::write_all(STDOUT_FILENO, b" ");
-        io::print_hex(STDOUT_FILENO, b, 8);
+        return word(rt, "nan");
     }
+    let b = f32::to_bits(x);
+    print!(rt; " {b:08x}")
 }
 
-pub fn bits_f64(x: f64) {
+pub fn bits_f64(rt: &impl Print, x: f64) -> io::Result<()> {
     if x != x {
-        word(b"nan");
-    } else {
-        let b = f64::to_bits(x);
-        io::write_all(STDOUT_FILENO, b" ");
-        io::print_hex(STDOUT_FILENO, b, 16);
+        return word(rt, "nan");
     }
+    let b = f64::to_bits(x);
+    print!(rt; " {b:016x}")
 }

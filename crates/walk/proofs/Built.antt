@@ -1,10 +1,10 @@
 -- On lent slots that are the tree of a cloud the pruned walk of any search is a look at every slot in near-first order, if only a look changes nothing at a slot that the plane is under.
 -- Assumes nothing.
-use mathlib.Core.Path.{◌≡◌, refl, sym, ap, ◌∙◌, subst}
+use mathlib.Core.Path.{◌≡◌, sym, ap, ◌∙◌, subst}
 use mathlib.Core.Bool.{Bool, true, false, ◌&&◌, true≢false}
 use mathlib.Core.List.Memᴰ
 use mathlib.Core.List.{List, [], ◌∷◌, Memᴰ}
-use Prim.Native.Nat.{ℕ, zero, suc, ◌+◌, ◌*◌, ◌^◌, ◌≤◌, ◌<◌}
+use Prim.Native.Nat.{ℕ, suc, ◌+◌, ◌^◌, ◌≤◌, ◌<◌}
 use native.Mathlib.Omega.{arith}
 use lib.Dec.{T}
 use lib.ListN.{get_or, drop}
@@ -14,10 +14,10 @@ use lib.Ieee.Fits.{and_l, and_r}
 use Rattle.bits.specs.Finite.{finite}
 use Rattle.bits.specs.Key.{key}
 use Rattle.space.specs.declared.Point3f.{Point3f}
-use Rattle.space.specs.Distance.{on, distance_squared, apart, left_is_near}
+use Rattle.space.specs.Distance.{on, distance_squared}
 use Rattle.space.proofs.Under.{Under}
 use Rattle.space.proofs.Prune.{Indexed, prune}
-use Rattle.tree.specs.Slots.{Slot, slot, point_at, slots, rank}
+use Rattle.tree.specs.Slots.{Slot, slots, rank}
 use Rattle.tree.specs.Part.{Part, laid, lent}
 use Rattle.tree.specs.Cloud.{finite_point, tree_of}
 use Rattle.tree.specs.Walk.{order, each, walk}

@@ -4,7 +4,7 @@ use mathlib.Core.Path.{◌≡◌, refl, sym, ap, ap₂, ◌∙◌, subst}
 use mathlib.Core.Logic.{◌⊎◌, inl, inr}
 use mathlib.Core.Bool.{Bool, true, false, not, ◌&&◌, cond}
 use mathlib.Core.List.{List, [], ◌∷◌}
-use Prim.Native.Nat.{ℕ, zero, suc, ◌+◌, ◌-◌, ◌*◌, ◌/◌, ◌≤◌, ◌<◌}
+use Prim.Native.Nat.{ℕ, suc, ◌+◌, ◌-◌, ◌*◌, ◌/◌, ◌≤◌, ◌<◌}
 use native.Mathlib.Nat.{lt_of_le_of_lt}
 use native.Mathlib.Numerals.{add-one}
 use native.Mathlib.Omega.{arith}
@@ -16,7 +16,7 @@ use lib.Ieee.Digits.{size-lt, size-le}
 use Rattle.space.specs.declared.Point3f.{Point3f}
 use Rattle.space.specs.Distance.{apart, left_is_near, square, distance_squared}
 use Rattle.tree.specs.Slots.{Slot, slot, point_at, none, slots}
-use Rattle.tree.specs.Part.{Part, split, part_of, lent}
+use Rattle.tree.specs.Part.{Part, split, lent}
 use Rattle.tree.specs.Grow.{next_axis}
 use Rattle.tree.specs.Levels.{levels}
 use Rattle.tree.specs.Walk.{walk}

@@ -3,14 +3,13 @@ use mathlib.Core.Path.{◌≡◌, refl}
 use mathlib.Core.Bool.{true, false}
 use mathlib.Core.List.{List, [], ◌∷◌}
 use Prim.Native.Nat.{ℕ}
-use lib.IntN.{pos, negsuc}
+use lib.IntN.{pos}
 use lib.Ieee.{Float, fin, add, sub, mul, neg, sum, round, le, lt, eq}
 use Rattle.space.specs.declared.Point3f.{Point3f}
 use Rattle.space.specs.Distance.{distance_squared, apart, left_is_near}
 use Rattle.walk.specs.Node.{left_of, right_of, node_of, waits}
 use Rattle.walk.specs.declared.Group.{Group}
 use Rattle.walk.specs.declared.Waiting.{Waiting}
-use Rattle.walk.specs.declared.Node.{Node}
 
 abbrev o : Float
 o = fin false 0 (pos 0)

@@ -1,4 +1,6 @@
 // The stack kit that every search shares: what is seen at a node, and the far parts that wait.
+#![tactic(auto)]
+
 ghost use Rattle.std.specs.Prelude.{◌≡◌, cond, ◌+◌, ◌*◌, ◌<◌, ◌≤◌, length};
 ghost use Rattle.bits.specs.Constants.{infinite};
 ghost use Rattle.tree.specs.Slots.{point_at};
@@ -8,7 +10,7 @@ ghost use Rattle.walk.specs.Node.{node_by, node_of, waits};
 use space::Point3f;
 
 // A group of slots: where it starts, how many it has, and the axis that it is split on.
-#[derive(Drop)]
+#[derive(Clone, Copy)]
 pub struct Group {
     pub start: u32,
     pub len: u32,
@@ -16,14 +18,14 @@ pub struct Group {
 }
 
 // A far part that waits, with the squared distance to its plane.
-#[derive(Drop)]
+#[derive(Clone, Copy)]
 pub struct Waiting {
     pub group: Group,
     pub plane_sq: f32,
 }
 
 // The root of a group as the query sees it: its squared distance, and the two parts.
-#[derive(Drop)]
+#[derive(Clone, Copy)]
 pub struct Node {
     pub distance_sq: f32,
     pub near: Group,

@@ -1,0 +1,9 @@
+-- `ask_all`: the walk ends.
+use Prim.Native.Nat.{◌≤◌, ◌-◌}
+use Rattle.asked.proofs.ask_all.Given as goal
+
+abbrev pub invariant-loop-i : goal.invariant-loop-i
+invariant-loop-i l = l.i ≤ l.queries
+
+abbrev pub decreases-loop-i : goal.decreases-loop-i
+decreases-loop-i l = l.queries - l.i

@@ -1,0 +1,12 @@
+-- `refused_indices`: each index is put back.
+use mathlib.Core.Path.{◌≡◌}
+use Prim.Native.Nat.{◌≤◌, ◌-◌}
+use lib.ListN.{length}
+use Rattle.build_run.proofs.refused_indices.Given as goal
+
+abbrev pub invariant-loop-i : goal.invariant-loop-i
+invariant-loop-i l =
+    (l.i ≤ length l.indices) × (length l.indices ≡ length l.initial.indices) × (l.refusals ≤ l.i)
+
+abbrev pub decreases-loop-i : goal.decreases-loop-i
+decreases-loop-i l = length l.indices - l.i

@@ -18,7 +18,7 @@ use Rattle.build.specs.declared.Built.TheVariants.{Count, Refused}
 use Rattle.select.specs.Order.{slot_of, slots_of, Inside}
 use Rattle.build.specs.Gather.{Gathered}
 use Rattle.build.specs.Entries.{written, building, Builds}
-use Rattle.build.proofs.Gathering.{indices-inside, slots_of-indexed}
+use Rattle.build.proofs.Gathering.{indices_inside, slots_of-indexed}
 
 module _ (cloud cs : List Float) (is : List ℕ) where
   -- ---- refusals
@@ -66,7 +66,7 @@ module _ (cloud cs : List Float) (is : List ℕ) (m : ℕ) (i1 : List ℕ) (g : 
     front_long = length-take-le m i1 (omega (arith, m-few))
 
     pub front-inside : Inside cloud (take m i1)
-    front-inside = subst (Inside cloud) (sym g.front) (indices-inside cloud (indexed cloud) (omega arith) (indexed-is cloud))
+    front-inside = subst (Inside cloud) (sym g.front) (indices_inside cloud (indexed cloud) (omega arith) (indexed-is cloud))
 
     module _ (j : List ℕ) (j-long : length j ≡ length (take m i1))
         (grew : (f : ℕ) → length (take m i1) ≤ f → slots_of cloud j ≡ laid (grow f 0 (slots_of cloud (take m i1))))
@@ -95,7 +95,7 @@ module _ (cloud cs : List Float) (is : List ℕ) (m : ℕ) (i1 : List ℕ) (g : 
         front-is = take_at j (drop m i1) m j-count
 
         pub built-inside : Inside cloud (take m (j ++ drop m i1))
-        built-inside = subst (Inside cloud) (sym (front-is ∙ j-is)) (indices-inside cloud (laid (tree_of cloud)) (omega arith) (tree_of-is cloud))
+        built-inside = subst (Inside cloud) (sym (front-is ∙ j-is)) (indices_inside cloud (laid (tree_of cloud)) (omega arith) (tree_of-is cloud))
 
         module _ (c1 : List Float) (wrote : c1 ≡ overwrite (numbers_of (slots_of cloud (take m (j ++ drop m i1)))) cs) where
           coords-are : c1 ≡ overwrite (numbers_of (laid (tree_of cloud))) cs

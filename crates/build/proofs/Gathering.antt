@@ -89,9 +89,9 @@ indices-mem [] i m = absurd (Memᴰ.not-nil m)
 indices-mem (s ∷ ss) i (Memᴰ.head e) = (s, Memᴰ.head refl, e)
 indices-mem (s ∷ ss) i (Memᴰ.tail m) = let p = indices-mem ss i m in (p.0, Memᴰ.tail p.1, p.2)
 
-pub indices-inside : (cloud : List Float) (ss : List Slot) → length cloud ≤ 3 * most_points → ((s : Slot) → Memᴰ s ss → Indexed cloud s)
+pub indices_inside : (cloud : List Float) (ss : List Slot) → length cloud ≤ 3 * most_points → ((s : Slot) → Memᴰ s ss → Indexed cloud s)
     → Inside cloud (indices_of ss)
-indices-inside cloud ss h k =
+indices_inside cloud ss h k =
     record { few = h; each = λ i m. let p = indices-mem ss i m in omega (arith, p.2, (k p.0 p.1).within) }
 
 slots_of-indices : (cloud : List Float) (ss : List Slot) → ((s : Slot) → Memᴰ s ss → s ≡ slot (point_at cloud s.index) s.index)

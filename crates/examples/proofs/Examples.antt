@@ -39,21 +39,21 @@ unfolding
 examples =
     record {
       one = refl;
-      one-count = refl;
-      one-coords = refl;
+      one_count = refl;
+      one_coords = refl;
       two = refl;
       three = refl;
       four = refl;
-      four-matched = refl;
+      four_matched = refl;
       five = refl;
       six = refl;
       seven = refl;
       eight = refl;
-      eight-squares = refl;
+      eight_squares = refl;
       nine = refl;
       ten = refl;
       eleven = refl;
       twelve = refl;
-      twelve-first = refl;
-      twelve-second = refl;
+      twelve_first = refl;
+      twelve_second = refl;
     }

@@ -69,15 +69,15 @@ places4 = 9 ∷ 9 ∷ 9 ∷ 9 ∷ []
 pub record Examples : Type 0 where
   -- 1. K builds to indices 3, 1, 0, 2.
   pub one : left (λ w. w.indices) places4 (building cloud_k room12 places4) ≡ indices_k
-  pub one-count : returned (λ w. w.slots) (building cloud_k room12 places4) ≡ gives 4
-  pub one-coords : left (λ w. w.coords) room12 (building cloud_k room12 places4) ≡ coords_k
+  pub one_count : returned (λ w. w.slots) (building cloud_k room12 places4) ≡ gives 4
+  pub one_coords : left (λ w. w.coords) room12 (building cloud_k room12 places4) ≡ coords_k
   -- 2. (1,1,0), bound infinity: index 0, distance 1.
   pub two : bounded coords_k indices_k (at one1 one1) infinite Nothing ≡ gives (Found 0 one1)
   -- 3. (1,1,0), bound 1: nothing.
   pub three : bounded coords_k indices_k (at one1 one1) one1 Nothing ≡ gives Nothing
   -- 4. (1,1,0), limit 1: index 0.
   pub four : bounded coords_k indices_k (at one1 one1) (bound_of (At one1)) Nothing ≡ gives (Found 0 one1)
-  pub four-matched : match_in (one1 ∷ one1 ∷ nought ∷ []) cloud_k coords_k indices_k (At one1) (no_match ∷ []) ≡ gives (0 ∷ [])
+  pub four_matched : match_in (one1 ∷ one1 ∷ nought ∷ []) cloud_k coords_k indices_k (At one1) (no_match ∷ []) ≡ gives (0 ∷ [])
   -- 5. (0.5,0,0): index 0, 0.25.
   pub five : unbounded coords_k indices_k (at half½ nought) ≡ gives (Found 0 quarter)
   -- 6. (0.5,0,0), seed 1 at 0.25: index 1.
@@ -86,7 +86,7 @@ pub record Examples : Type 0 where
   pub seven : unbounded coords_k indices_k (at nan nought) ≡ gives Nothing
   -- 8. (1,1,0), k = 4: 0, 2, 1, 3 at 1, 2, 2, 17.
   pub eight : returned indices_in (nearest_listing coords_k indices_k (at one1 one1) 4 places4 room4) ≡ gives (0 ∷ 2 ∷ 1 ∷ 3 ∷ [])
-  pub eight-squares : returned squares_in (nearest_listing coords_k indices_k (at one1 one1) 4 places4 room4) ≡ gives (one1 ∷ two2 ∷ two2 ∷ seventeen ∷ [])
+  pub eight_squares : returned squares_in (nearest_listing coords_k indices_k (at one1 one1) 4 places4 room4) ≡ gives (one1 ∷ two2 ∷ two2 ∷ seventeen ∷ [])
   -- 9. (1,1,0), radius 1.5: 0, 2, 1.
   pub nine : returned indices_in (radius_listing coords_k indices_k (at one1 one1) one_and_half places4 room4) ≡ gives (0 ∷ 2 ∷ 1 ∷ [])
   -- 10. Limit 0: bound 2^-149.
@@ -95,5 +95,5 @@ pub record Examples : Type 0 where
   pub eleven : frame_in (two_on_x (fin false 99 (pos 0)) (fin false 101 (pos 0))) ≡ gives none
   -- 12. Cloud x = 100 and 102: origin 101, locals -1 and 1.
   pub twelve : frame_in (two_on_x (fin false 25 (pos 2)) (fin false 51 (pos 1))) ≡ gives (some (record { origin = record { x = fin false 101 (pos 0); y = nought; z = nought } }))
-  pub twelve-first : local_point (record { origin = record { x = fin false 101 (pos 0); y = nought; z = nought } }) (at (fin false 25 (pos 2)) nought) ≡ at (fin true 1 (pos 0)) nought
-  pub twelve-second : local_point (record { origin = record { x = fin false 101 (pos 0); y = nought; z = nought } }) (at (fin false 51 (pos 1)) nought) ≡ at one1 nought
+  pub twelve_first : local_point (record { origin = record { x = fin false 101 (pos 0); y = nought; z = nought } }) (at (fin false 25 (pos 2)) nought) ≡ at (fin true 1 (pos 0)) nought
+  pub twelve_second : local_point (record { origin = record { x = fin false 101 (pos 0); y = nought; z = nought } }) (at (fin false 51 (pos 1)) nought) ≡ at one1 nought

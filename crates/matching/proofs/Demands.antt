@@ -31,7 +31,7 @@ module _ (source target coords : List Float) (indices : List ℕ) (bound : Float
     met = demand2 (point_at source i) bound target coords indices (seed_of target (point_at source i) (get_or matches i 0)) numbers small is-tree
 
     pub entry2 : Answered2 source target bound i (get_or matches i 0) (get_or (match_all source target coords indices bound matches) i 0)
-    entry2 = record { answer = answer_for source target coords indices bound i (get_or matches i 0); is-entry = at; demand = met }
+    entry2 = record { answer = answer_for source target coords indices bound i (get_or matches i 0); is_entry = at; demand = met }
 
     no-seed : get_or matches i 0 ≡ no_match → seed_of target (point_at source i) (get_or matches i 0) ≡ Nothing
     unfolding seed_of

@@ -37,7 +37,7 @@ part-determined start cloud index p q r s a b = (a.stands ∙ sym b.stands, a.ho
 pub pairs-determined : (matches sources targets : List ℕ) (r s : P.Paired) (A B C D : List ℕ)
     → ListsPairs matches sources targets r A B → ListsPairs matches sources targets s C D → (r ≡ s) × (A ≡ C) × (B ≡ D)
 pairs-determined matches sources targets r s A B C D a b =
-    (paired-tells r s (a.returns ∙ sym b.returns), a.sources-left ∙ sym b.sources-left, a.targets-left ∙ sym b.targets-left)
+    (paired-tells r s (a.returns ∙ sym b.returns), a.sources_left ∙ sym b.sources_left, a.targets_left ∙ sym b.targets_left)
 
 -- `find_correspondences_seeded`
 pub matches-determined : (source target coords : List Float) (indices : List ℕ) (limit : Limit) (matches : List ℕ) (r s : M.Matched) (A B : List ℕ)

@@ -125,5 +125,5 @@ matches-inside source target coords indices bound matches cl =
     entries-inside (λ i s. match_of (answer_for source target coords indices bound i s)) (count target) 0 matches (λ i h.
     subst (λ (k : ℕ). bad (count target) (match_of (answer_for source target coords indices bound k (get_or matches i 0))) ≡ false) (sym (zero-add i))
     (entry-inside (count target) (answer_for source target coords indices bound i (get_or matches i 0))
-    (searched-below (count target) coords indices (point_at source i) bound (seed_of target (point_at source i) (get_or matches i 0)) cl.indices-inside
-    (seed-below (count target) target (point_at source i) (get_or matches i 0) (entry-below (count target) matches i h cl.seeds-inside)))))
+    (searched-below (count target) coords indices (point_at source i) bound (seed_of target (point_at source i) (get_or matches i 0)) cl.indices_inside
+    (seed-below (count target) target (point_at source i) (get_or matches i 0) (entry-below (count target) matches i h cl.seeds_inside)))))

@@ -70,13 +70,13 @@ module _ (source target coords : List Float) (indices matches : List ℕ) where
       let entries : length matches ≡ length source / 3 = eqb-true _ _ (not-false _ abc.1) in
       let threes : length source ≡ 3 * (length source / 3) = whole (length source) (not-false _ whole-clouds.0) in
       record {
-        source-whole = omega arith;
-        target-whole = whole (length target) (not-false _ whole-clouds.1);
-        tree-whole = eqb-true _ _ (not-false _ ab.1);
-        some-target = pos_of_ne-zero (eqb-false _ _ (neither (has_none source) (has_none target) p.2).1);
-        few-targets = ltb-false _ _ (neither f g fg.0).1;
-        few-slots = ltb-false _ _ fg.1;
-        few-matches = ltb-false _ _ fgh.1;
-        seeds-inside = out.0;
-        indices-inside = out.1;
+        source_whole = omega arith;
+        target_whole = whole (length target) (not-false _ whole-clouds.1);
+        tree_whole = eqb-true _ _ (not-false _ ab.1);
+        some_target = pos_of_ne-zero (eqb-false _ _ (neither (has_none source) (has_none target) p.2).1);
+        few_targets = ltb-false _ _ (neither f g fg.0).1;
+        few_slots = ltb-false _ _ fg.1;
+        few_matches = ltb-false _ _ fgh.1;
+        seeds_inside = out.0;
+        indices_inside = out.1;
       }

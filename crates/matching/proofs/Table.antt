@@ -136,9 +136,9 @@ table =
       fours = (refl, refl, refl);
       fives = (refl, refl, refl, refl);
       tested = (refl, refl, refl, refl, refl);
-      listed = record { returns = refl; sources-left = refl; targets-left = refl };
-      no-sources = record { returns = refl; sources-left = refl; targets-left = refl };
-      no_targets = record { returns = refl; sources-left = refl; targets-left = refl };
+      listed = record { returns = refl; sources_left = refl; targets_left = refl };
+      no-sources = record { returns = refl; sources_left = refl; targets_left = refl };
+      no_targets = record { returns = refl; sources_left = refl; targets_left = refl };
       part = record { holds = refl; stands = refl };
       part-outside = record { holds = refl; stands = refl };
       part-ragged = record { holds = refl; stands = refl };
@@ -148,15 +148,15 @@ table =
     }
 
 -- 2: lists that long are too long for a row, so that it is told of every list
-module _ (source target coords : List Float) (indices matches : List ℕ) (few-sources : too_many (count source) ≡ false) where
+module _ (source target coords : List Float) (indices matches : List ℕ) (few_sources : too_many (count source) ≡ false) where
   long-target : too_many (count target) ≡ true → two source target coords indices matches ≡ true
   long-target h =
-      ap (λ b. b || too_many (count target) || too_many (length indices) || too_many (length matches)) few-sources
+      ap (λ b. b || too_many (count target) || too_many (length indices) || too_many (length matches)) few_sources
       ∙ ap (λ b. b || too_many (length indices) || too_many (length matches)) h
 
   long-tree : too_many (count target) ≡ false → too_many (length indices) ≡ true → two source target coords indices matches ≡ true
   long-tree few h =
-      ap (λ b. b || too_many (count target) || too_many (length indices) || too_many (length matches)) few-sources
+      ap (λ b. b || too_many (count target) || too_many (length indices) || too_many (length matches)) few_sources
       ∙ ap (λ b. b || too_many (length indices) || too_many (length matches)) few
       ∙ ap (λ b. b || too_many (length matches)) h
 

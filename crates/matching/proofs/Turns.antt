@@ -34,13 +34,13 @@ module _ (S T C : List Float) (I : List ℕ) (b : Float) where
     seed = ap (λ (l : List ℕ). get_or l i 0) t.holds ∙ after-seed entry M₀ i h
 
     pub place : Clear S T C I M₀ → (i < 1048576) × (i < length M) × (3 * i + 3 ≤ length S)
-    place cl = (omega (arith, cl.few-matches), omega (arith, same t), omega (arith, cl.source-whole))
+    place cl = (omega (arith, cl.few_matches), omega (arith, same t), omega (arith, cl.source_whole))
 
     pub present : Clear S T C I M₀ → (get_or M i 0 ≡ no_match → ⊥) → (get_or M i 0 < 1048576) × (3 * get_or M i 0 + 3 ≤ length T)
     present cl p =
         let e : get_or M i 0 ≡ get_or M₀ i 0 = seed in
-        let g = entry-below _ M₀ i h cl.seeds-inside (λ q. p (e ∙ q)) in
-        (omega (arith, cl.few-targets), omega (arith, cl.target-whole))
+        let g = entry-below _ M₀ i h cl.seeds_inside (λ q. p (e ∙ q)) in
+        (omega (arith, cl.few_targets), omega (arith, cl.target_whole))
 
     pub turn : {M' : List ℕ} → M' ≡ set M i (entry i (get_or M i 0)) → Turned M₀ M' (i + 1)
     turn e = record {

@@ -24,13 +24,13 @@ pub record HandsPart (start : ℕ × ℕ) (cloud : List Float) (index : ℕ) (pl
 -- `correspondence_pairs`: the result r and the two lists afterwards
 pub record ListsPairs (matches sources targets : List ℕ) (r : Paired) (sources' targets' : List ℕ) : Type 0 where
   pub returns : paired_of r ≡ returned (λ w. w.number) (pairs_in matches sources targets)
-  pub sources-left : sources' ≡ left (λ w. w.sources) sources (pairs_in matches sources targets)
-  pub targets-left : targets' ≡ left (λ w. w.targets) targets (pairs_in matches sources targets)
+  pub sources_left : sources' ≡ left (λ w. w.sources) sources (pairs_in matches sources targets)
+  pub targets_left : targets' ≡ left (λ w. w.targets) targets (pairs_in matches sources targets)
 
 -- the answer to which the entry m of a source point came, from its seed s: demand 2 holds of it
 pub record Answered2 (source target : List Float) (bound : Float) (i s m : ℕ) : Type 0 where
   pub answer : Nearest
-  pub is-entry : m ≡ match_of answer
+  pub is_entry : m ≡ match_of answer
   pub demand : Demand2 (point_at source i) (near_first target (point_at source i)) bound (seed_of target (point_at source i) s) answer
 
 -- demand 3 of the entry m: a target point that no other is nearer than, exactly, but for one part in 2 ^ 20

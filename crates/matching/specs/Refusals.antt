@@ -25,12 +25,12 @@ module _ (source target coords : List Float) (indices matches : List ℕ) where
 
 -- what the code behind the refusals goes by: the lengths fit, there is a target point, and each seed and each index of the tree names a target point
 pub record Clear (source target coords : List Float) (indices matches : List ℕ) : Type 0 where
-  pub source-whole : length source ≡ 3 * length matches
-  pub target-whole : length target ≡ 3 * count target
-  pub tree-whole : length coords ≡ 3 * length indices
-  pub some-target : 0 < count target
-  pub few-targets : count target ≤ 1048576
-  pub few-slots : length indices ≤ 1048576
-  pub few-matches : length matches ≤ 1048576
-  pub seeds-inside : any_entry_outside (count target) matches ≡ false
-  pub indices-inside : any_index_outside (count target) indices ≡ false
+  pub source_whole : length source ≡ 3 * length matches
+  pub target_whole : length target ≡ 3 * count target
+  pub tree_whole : length coords ≡ 3 * length indices
+  pub some_target : 0 < count target
+  pub few_targets : count target ≤ 1048576
+  pub few_slots : length indices ≤ 1048576
+  pub few_matches : length matches ≤ 1048576
+  pub seeds_inside : any_entry_outside (count target) matches ≡ false
+  pub indices_inside : any_index_outside (count target) indices ≡ false

@@ -236,9 +236,9 @@ fn match_point(
     matches: &mut [u32],
     i: usize,
 )
-    requires i_bound { (i < 1048576) × (i < length matches.old) × (3 * i + 3 ≤ length source.now) }
+    requires entry_inside { (i < 1048576) × (i < length matches.old) × (3 * i + 3 ≤ length source.now) }
     requires coords_len { (length coords.now ≡ 3 * length indices.now) × (length indices.now ≤ 1048576) }
-    requires i_bound_2 { (get_or matches.old i 0 ≡ no_match → ⊥) → (get_or matches.old i 0 < 1048576) × (3 * get_or matches.old i 0 + 3 ≤ length target.now) }
+    requires seed_inside { (get_or matches.old i 0 ≡ no_match → ⊥) → (get_or matches.old i 0 < 1048576) × (3 * get_or matches.old i 0 + 3 ≤ length target.now) }
     ensures { matches.new ≡ set matches.old i (match_of (answer_for source.now target.now coords.now indices.now bound_sq i (get_or matches.old i 0))) }
 {
     let query = tree::point_at(source, i);

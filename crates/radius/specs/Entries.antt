@@ -22,5 +22,5 @@ pub record RadiusWritten (coords : List Float) (indices : List ℕ) (q : Point3f
   pub written : Written (radius_listing coords indices q r is ds) roots_in is ds answer is' ds'
   pub built : (cloud : List Float) → slots coords indices ≡ laid (tree_of cloud) → in_radius q r (lent coords indices) ≡ in_radius_all q r (tree_of cloud)
   -- "Radius <= 0 or NaN gives an empty list"
-  pub at-most-zero : le r nought ≡ true → in_radius q r (lent coords indices) ≡ []
+  pub at_most_zero : le r nought ≡ true → in_radius q r (lent coords indices) ≡ []
   pub no_number : is_nan r ≡ true → in_radius q r (lent coords indices) ≡ []

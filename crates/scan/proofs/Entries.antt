@@ -56,10 +56,10 @@ unfolding any_entry_outside
 no-seeds n zero = refl
 no-seeds n (suc k) = no-seeds n k
 
-indices-inside : (n : ℕ) (ss : List Slot) → ((s : Slot) → Memᴰ s ss → s.index < n) → any_index_outside n (indices_of ss) ≡ false
+indices_inside : (n : ℕ) (ss : List Slot) → ((s : Slot) → Memᴰ s ss → s.index < n) → any_index_outside n (indices_of ss) ≡ false
 unfolding any_index_outside indices_of
-indices-inside n [] h = refl
-indices-inside n (s ∷ ss) h = simp (lt-ltb _ _ (h s (mathlib.Core.List.Memᴰ.head refl)), indices-inside n ss (λ t m. h t (mathlib.Core.List.Memᴰ.tail m)))
+indices_inside n [] h = refl
+indices_inside n (s ∷ ss) h = simp (lt-ltb _ _ (h s (mathlib.Core.List.Memᴰ.head refl)), indices_inside n ss (λ t m. h t (mathlib.Core.List.Memᴰ.tail m)))
 
 -- what a search without a seed finds is a target point
 found_inside : (T : List Float) (q : _) (bound : Float) (a : Nearest) → LeastBelow q (near_first T q) bound a → Inside (count T) (match_of a)
@@ -82,14 +82,14 @@ module _ (S T : List Float) (M : List ℕ) (ready : Ready S T M) (unseeded : Uns
       let a : length S % 3 ≡ 0 = omega (arith, ready.each) in
       let b : length T % 3 ≡ 0 = omega (arith, ready.whole) in
       let c : length C ≡ 3 * length I = omega (arith, numbers-length (tree_slots T), indices-length (tree_slots T)) in
-      let d : count S ≤ 1048576 = omega (arith, points, ready.few-sources) in
-      let e : count T ≤ 1048576 = omega (arith, ready.few-targets) in
-      let f : length I ≤ 1048576 = omega (arith, indices-length (tree_slots T), tree_of-length T, indexed-length T, ready.few-targets) in
-      let g : length M ≤ 1048576 = omega (arith, ready.few-sources) in
-      let h : count S ≡ 0 → ⊥ = λ z. omega (arith, points, ready.some-sources) in
-      let i : count T ≡ 0 → ⊥ = λ z. omega (arith, ready.some-targets) in
+      let d : count S ≤ 1048576 = omega (arith, points, ready.few_sources) in
+      let e : count T ≤ 1048576 = omega (arith, ready.few_targets) in
+      let f : length I ≤ 1048576 = omega (arith, indices-length (tree_slots T), tree_of-length T, indexed-length T, ready.few_targets) in
+      let g : length M ≤ 1048576 = omega (arith, ready.few_sources) in
+      let h : count S ≡ 0 → ⊥ = λ z. omega (arith, points, ready.some_sources) in
+      let i : count T ≡ 0 → ⊥ = λ z. omega (arith, ready.some_targets) in
       let j : any_entry_outside (count T) M ≡ false = rw unseeded (no-seeds (count T) (length M)) in
-      let k : any_index_outside (count T) I ≡ false = indices-inside (count T) (tree_slots T) (λ s m. (tree_of-is T s m).within) in
+      let k : any_index_outside (count T) I ≡ false = indices_inside (count T) (tree_slots T) (λ s m. (tree_of-is T s m).within) in
       simp (eq-eqb _ _ a, eq-eqb _ _ b, eq-eqb _ _ c, eq-eqb _ _ points, le-ltb _ _ d, le-ltb _ _ e, le-ltb _ _ f, le-ltb _ _ g, ne_eqb _ _ h, ne_eqb _ _ i, j, k)
 
   gives_all : match_in S T (numbers_of (tree_slots T)) (indices_of (tree_slots T)) Unlimited M ≡ gives (matches_of S T)
@@ -114,7 +114,7 @@ module _ (S T : List Float) (M : List ℕ) (ready : Ready S T M) (unseeded : Uns
         let a = m.demand2 (is-done r (m.returns ∙ ap (returned done) gives_all)) (slots-of (tree_slots T)) i h in
         let none : get_or M i 0 ≡ no_match = ap (λ (l : List ℕ). get_or l i 0) unseeded ∙ get_or-replicate (length M) i no_match 0 h in
         let no-seed : seed_of T q (get_or M i 0) ≡ Nothing = simp (eq-eqb _ _ none) in
-        subst (Inside (count T)) (sym a.is-entry) (found_inside T q (bound_of Unlimited) a.answer (a.demand.unseeded no-seed))
+        subst (Inside (count T)) (sym a.is_entry) (found_inside T q (bound_of Unlimited) a.answer (a.demand.unseeded no-seed))
 
     pub entries-inside : length M' ≡ length M → any_entry_outside (count T) M' ≡ false
     entries-inside e = all-inside (count T) M' (λ i h. entry-inside i (subst (λ (k : ℕ). i < k) e h))

@@ -105,11 +105,11 @@ is-ready s t {bytes} {S} {T} {M} c l_s l_t e_m =
     let l_m : length M ≡ s = ap length e_m ∙ length-replicate s no_match in (
       record {
         each = omega arith;
-        some-sources = omega (arith, c.some-sources);
-        few-sources = omega (arith, c.few-sources);
+        some_sources = omega (arith, c.some_sources);
+        few_sources = omega (arith, c.few_sources);
         whole = omega arith;
-        some-targets = omega (arith, c.some-targets);
-        few-targets = omega (arith, c.few-targets);
+        some_targets = omega (arith, c.some_targets);
+        few_targets = omega (arith, c.few_targets);
       },
       e_m ∙ ap (λ (k : ℕ). replicate k no_match) (sym l_m),
     )

@@ -70,12 +70,12 @@ module _ (M : List ℕ) (few : length M ≤ most_read) where
 
       sources-front : take n A' ≡ sources_of (pairs M)
       sources-front =
-          ap (take n) (l.sources-left ∙ ap (left (λ w. w.sources) A) (listed A B room room'))
+          ap (take n) (l.sources_left ∙ ap (left (λ w. w.sources) A) (listed A B room room'))
           ∙ take_at (sources_of (pairs M)) _ n (length-map (pairs M) (λ p. p.source) ∙ sym pair-number)
 
       targets-front : take n B' ≡ targets_of (pairs M)
       targets-front =
-          ap (take n) (l.targets-left ∙ ap (left (λ w. w.targets) B) (listed A B room room'))
+          ap (take n) (l.targets_left ∙ ap (left (λ w. w.targets) B) (listed A B room room'))
           ∙ take_at (targets_of (pairs M)) _ n (length-map (pairs M) (λ p. p.target) ∙ sym pair-number)
 
       pub sources-length : n ≡ length (take n A')
@@ -96,9 +96,9 @@ module _ (S T : List Float) (M : List ℕ) (ready : Ready S T M) (inside : any_e
       let p : length M ≡ length S / 3 = omega (arith, ready.each) in
       let a : length S % 3 ≡ 0 = omega (arith, ready.each) in
       let b : length T % 3 ≡ 0 = omega (arith, ready.whole) in
-      let d : count S ≤ 1048576 = omega (arith, p, ready.few-sources) in
-      let e : count T ≤ 1048576 = omega (arith, ready.few-targets) in
-      let g : length M ≤ 1048576 = omega (arith, ready.few-sources) in
+      let d : count S ≤ 1048576 = omega (arith, p, ready.few_sources) in
+      let e : count T ≤ 1048576 = omega (arith, ready.few_targets) in
+      let g : length M ≤ 1048576 = omega (arith, ready.few_sources) in
       simp (eq-eqb _ _ a, eq-eqb _ _ b, eq-eqb _ _ p, le-ltb _ _ d, le-ltb _ _ e, le-ltb _ _ g, inside)
 
   module _ {r : Collected} (e : collected r ≡ sums_in S T M) where

@@ -29,13 +29,13 @@ unfoldable pub header : List ℕ → Outcome Counts
 unfolding word
 header bytes =
     let sources = word bytes 0 in
-    let source-at = word bytes 4 in
+    let source_at = word bytes 4 in
     let targets = word bytes 8 in
     let target_at = word bytes 12 in
     refuse 1 (ltb (length bytes) 16)
     (refuse 2 (ltb most_read sources || ltb most_read targets)
     (refuse 4 (eqb sources 0 || eqb targets 0)
-    (refuse 1 (not (eqb source-at 16) || not (eqb target_at (16 + 12 * sources)) || not (eqb (length bytes) (16 + 12 * sources + 12 * targets)))
+    (refuse 1 (not (eqb source_at 16) || not (eqb target_at (16 + 12 * sources)) || not (eqb (length bytes) (16 + 12 * sources + 12 * targets)))
     (gives (record { source = sources; target = targets })))))
 
 -- the numbers of the two clouds, behind the header

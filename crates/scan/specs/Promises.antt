@@ -15,10 +15,10 @@ side (i ∷ is) (m ∷ ms) = pair i m ∷ side is ms
 
 -- what the header's checks leave: both counts are from 1 to 1,024, and the input is as long as they say
 pub record Counted (sources targets bytes : ℕ) : Type 0 where
-  pub some-sources : 0 < sources
-  pub few-sources : sources ≤ most_read
-  pub some-targets : 0 < targets
-  pub few-targets : targets ≤ most_read
+  pub some_sources : 0 < sources
+  pub few_sources : sources ≤ most_read
+  pub some_targets : 0 < targets
+  pub few_targets : targets ≤ most_read
   pub whole : bytes ≡ 16 + 12 * sources + 12 * targets
 
 -- and what is known of the points that a header names
@@ -29,11 +29,11 @@ Checked (Points s t) bytes = Counted s t bytes
 -- two clouds, and one match entry for each source point
 pub record Ready (source target : List Float) (matches : List ℕ) : Type 0 where
   pub each : length source ≡ 3 * length matches
-  pub some-sources : 0 < length matches
-  pub few-sources : length matches ≤ most_read
+  pub some_sources : 0 < length matches
+  pub few_sources : length matches ≤ most_read
   pub whole : length target ≡ 3 * count target
-  pub some-targets : 0 < count target
-  pub few-targets : count target ≤ most_read
+  pub some_targets : 0 < count target
+  pub few_targets : count target ≤ most_read
 
 abbrev pub Unseeded : List ℕ → Type 0
 Unseeded matches = matches ≡ replicate (length matches) no_match

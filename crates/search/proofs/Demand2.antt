@@ -133,7 +133,7 @@ module _ (q : Point3f) where
           unseeded = λ e. least-below ns r (subst From e a);
           dropped = λ j x e f. least-below ns r (subst (Tested j x) f (subst From e a));
           stays = λ j x e t. seed-stays ns r j x (subst (Tested j x) t (subst From e a));
-          gives-way = λ j x e t. seed-gives-way ns r j x (subst (Tested j x) t (subst From e a));
+          gives_way = λ j x e t. seed-gives-way ns r j x (subst (Tested j x) t (subst From e a));
         }
       where
         From : Nearest → Type 0

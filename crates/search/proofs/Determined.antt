@@ -103,5 +103,5 @@ demand2-determined q near-first bound (Found j e) a b f g = go (lt e bound) refl
   where
     go : (c : Bool) → lt e bound ≡ c → ((s : Slot) × Memᴰ s near-first × (lt (distance_squared q s.point) e ≡ true)) ⊎ NoneBelow q near-first e → a ≡ b
     go false k r = least-determined q near-first bound a b (f.dropped j e refl k) (g.dropped j e refl k)
-    go true k (inl r) = least-determined q near-first e a b (f.gives-way j e refl k r.0 r.1 r.2) (g.gives-way j e refl k r.0 r.1 r.2)
+    go true k (inl r) = least-determined q near-first e a b (f.gives_way j e refl k r.0 r.1 r.2) (g.gives_way j e refl k r.0 r.1 r.2)
     go true k (inr h) = f.stays j e refl k h ∙ sym (g.stays j e refl k h)

@@ -172,7 +172,7 @@ not-lost d = let e : Nothing ≡ Found 9 half = d.stays 9 half refl refl (λ s m
 -- and one that a point is nearer than does not
 not-kept : Demand2 centre (five ∷ []) infinite (Found 9 two2) (Found 9 two2) → ⊥
 unfolding distance_squared add sub mul neg sum round le lt eq
-not-kept d = true≢false (sym (d.gives-way 9 two2 refl refl five (Memᴰ.head refl) refl).below)
+not-kept d = true≢false (sym (d.gives_way 9 two2 refl refl five (Memᴰ.head refl) refl).below)
 
 -- ---- demand 3: on the x axis, in units of 2 ^ -40 and seen from 0. Point 0 stands at 2 ^ 22 and point 1 one farther: near enough; at 2 ^ 21 it is not
 

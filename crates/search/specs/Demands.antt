@@ -58,7 +58,7 @@ pub record Demand2 (q : Point3f) (near-first : List Slot) (bound : Float) (seed 
   -- "With a seed below the bound: the seed, unless an indexed point is strictly nearer"
   pub stays : (j : ℕ) (e : Float) → seed ≡ Found j e → lt e bound ≡ true → NoneBelow q near-first e → answer ≡ Found j e
   -- "then as unseeded below its distance"
-  pub gives-way : (j : ℕ) (e : Float) → seed ≡ Found j e → lt e bound ≡ true → (s : Slot) → Memᴰ s near-first → lt (distance_squared q s.point) e ≡ true
+  pub gives_way : (j : ℕ) (e : Float) → seed ≡ Found j e → lt e bound ≡ true → (s : Slot) → Memᴰ s near-first → lt (distance_squared q s.point) e ≡ true
       → LeastBelow q near-first e answer
 
 -- Demand 2 of an entry that returned r: for every cloud whose tree the lent slots are, and the answer that r holds

@@ -54,7 +54,7 @@ module _ (S T C : List Float) (I : List ℕ) (l : Limit) (M : List ℕ) where
           list_left = m ∙ ap (left (λ x. x) M) e;
           inside = λ d. rw m (matches-inside S T C I (bound_of l) M (cleared told ruled));
           demand2 = λ d is-tree i h. rw m (entry2 S T C I (bound_of l) M numbers small is-tree i h);
-          demand3 = λ d is-tree tame f i h none tame-q. rw m (entry3 S T C I (bound_of l) M numbers small is-tree i h f tame (cleared told ruled).some-target none tame-q);
+          demand3 = λ d is-tree tame f i h none tame-q. rw m (entry3 S T C I (bound_of l) M numbers small is-tree i h f tame (cleared told ruled).some_target none tame-q);
         }
 
 pub match_all-requires : goal.match_all-requires

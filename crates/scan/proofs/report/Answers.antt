@@ -17,11 +17,11 @@ slice_bounds-match_and_write-end-2 c =
 
 pub slice_bounds-match_and_write-end-3 : goal.slice_bounds-match_and_write-end-3
 slice_bounds-match_and_write-end-3 c =
-    sym (ap length (no-matches c.args.sources 1024 c.requires.0.few-sources) ∙ length-replicate c.args.sources no_match)
+    sym (ap length (no-matches c.args.sources 1024 c.requires.0.few_sources) ∙ length-replicate c.args.sources no_match)
 
 pub match_and_write-requires : goal.match_and_write-requires
 match_and_write-requires c =
-    let r = is-ready c.args.sources c.args.targets c.requires.0 (front_length c.args.bytes.now _ (3 * c.args.sources) _ _ c.read_numbers.ensures) (front_length c.args.bytes.now _ (3 * c.args.targets) _ _ c.read_numbers-2.ensures) (no-matches c.args.sources 1024 c.requires.0.few-sources) in
+    let r = is-ready c.args.sources c.args.targets c.requires.0 (front_length c.args.bytes.now _ (3 * c.args.sources) _ _ c.read_numbers.ensures) (front_length c.args.bytes.now _ (3 * c.args.targets) _ _ c.read_numbers-2.ensures) (no-matches c.args.sources 1024 c.requires.0.few_sources) in
     (r.0, r.1, c.requires.1)
 
 pub returns : goal.returns

@@ -76,5 +76,5 @@ returns c =
       header-ruled B c.word-sources.ensures c.word-source_at.ensures c.word-targets.ensures c.word-target_at.ensures
           (all_right (length B) c.word-sources.result c.word-source_at.result c.word-targets.result c.word-target_at.result
           c.if-n-lt16.false c.if-sources-gt-MOST.false c.if-targets-gt-MOST.false c.if-sources-eq0.false c.if-targets-eq0.false (omega (arith, c.if-source_at-ne16.false)) (omega (arith, c.if-target_at-end.false)) (omega (arith, c.if-n-end.false))),
-      record { some-sources = omega arith; few-sources = omega arith; some-targets = omega arith; few-targets = omega arith; whole = omega arith },
+      record { some_sources = omega arith; few_sources = omega arith; some_targets = omega arith; few_targets = omega arith; whole = omega arith },
     )

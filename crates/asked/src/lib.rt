@@ -7,24 +7,25 @@ use build::{Built, Checked};
 use lists::Listed;
 use search::{Nearest, Searched};
 use space::Point3f;
-use stream::Answers;
+use std::io::Read;
+use stream::{Answers, Counts};
 use tree::KdTree;
 
 // The slots that were built; none and a difference where it was refused.
-pub fn slots(built: Built, answers: &mut Answers) -> usize
+pub fn slots(built: Built, counts: &mut Counts) -> usize
     ensures { result ≤ 1025 }
 {
-    stream::tally(answers, stream::BUILD);
+    stream::tally(counts, stream::BUILD);
     if let Built::Count(m) = built {
         if m <= stream::POINTS {
             return m;
         }
     }
-    stream::tally(answers, stream::DIFFER);
+    stream::tally(counts, stream::DIFFER);
     0
 }
 
-fn found(answer: Nearest, answers: &mut Answers) {
+fn found(answer: Nearest, answers: &mut Answers<impl Read>) {
     match answer {
         Nearest::Found(i, d) => {
             stream::same_word(1, answers);
@@ -35,15 +36,15 @@ fn found(answer: Nearest, answers: &mut Answers) {
     }
 }
 
-fn searched(answer: Searched, answers: &mut Answers) {
+fn searched(answer: Searched, answers: &mut Answers<impl Read>) {
     match answer {
         Searched::Answer(a) => found(a, answers),
-        Searched::Refused(_) => stream::tally(answers, stream::DIFFER),
+        Searched::Refused(_) => stream::tally(&mut answers.counts, stream::DIFFER),
     }
 }
 
 // How many entries were written; none and a difference where it was refused.
-fn entries(listed: Listed, answers: &mut Answers) -> usize
+fn entries(listed: Listed, counts: &mut Counts) -> usize
     ensures { result ≤ 1025 }
 {
     if let Listed::Count(n) = listed {
@@ -52,7 +53,7 @@ fn entries(listed: Listed, answers: &mut Answers) -> usize
             return k;
         }
     }
-    stream::tally(answers, stream::DIFFER);
+    stream::tally(counts, stream::DIFFER);
     0
 }
 
@@ -61,7 +62,7 @@ fn same_entries(
     found: &[u32; stream::POINTS],
     far: &[f32; stream::POINTS],
     n: usize,
-    answers: &mut Answers,
+    answers: &mut Answers<impl Read>,
 )
     requires { n ≤ 1025 }
 {
@@ -74,32 +75,50 @@ fn same_entries(
     }
 }
 
-fn squares(coords: &[f32], indices: &[u32], query: Point3f, k: u32, answers: &mut Answers) {
+fn squares(
+    coords: &[f32],
+    indices: &[u32],
+    query: Point3f,
+    k: u32,
+    answers: &mut Answers<impl Read>,
+) {
     let mut found = [0u32; stream::POINTS];
     let mut far = [0.0f32; stream::POINTS];
     let k = k as usize;
     let listed = lists::find_k_nearest_into(coords, indices, query, k, &mut found, &mut far);
-    stream::tally(answers, stream::SQUARES);
-    let n = entries(listed, answers);
+    stream::tally(&mut answers.counts, stream::SQUARES);
+    let n = entries(listed, &mut answers.counts);
     same_entries(&found, &far, n, answers);
 }
 
-fn roots(coords: &[f32], indices: &[u32], query: Point3f, k: u32, answers: &mut Answers) {
+fn roots(
+    coords: &[f32],
+    indices: &[u32],
+    query: Point3f,
+    k: u32,
+    answers: &mut Answers<impl Read>,
+) {
     let mut found = [0u32; stream::POINTS];
     let mut far = [0.0f32; stream::POINTS];
     let k = k as usize;
     let listed = lists::find_k_nearest(coords, indices, query, k, &mut found, &mut far);
-    stream::tally(answers, stream::ROOTS);
-    let n = entries(listed, answers);
+    stream::tally(&mut answers.counts, stream::ROOTS);
+    let n = entries(listed, &mut answers.counts);
     same_entries(&found, &far, n, answers);
 }
 
-fn within(coords: &[f32], indices: &[u32], query: Point3f, r: f32, answers: &mut Answers) {
+fn within(
+    coords: &[f32],
+    indices: &[u32],
+    query: Point3f,
+    r: f32,
+    answers: &mut Answers<impl Read>,
+) {
     let mut found = [0u32; stream::POINTS];
     let mut far = [0.0f32; stream::POINTS];
     let listed = radius::find_radius_neighbors(coords, indices, query, r, &mut found, &mut far);
-    stream::tally(answers, stream::RADIUS);
-    let n = entries(listed, answers);
+    stream::tally(&mut answers.counts, stream::RADIUS);
+    let n = entries(listed, &mut answers.counts);
     same_entries(&found, &far, n, answers);
 }
 
@@ -109,19 +128,19 @@ fn bounded(
     query: Point3f,
     bound: f32,
     seed: Nearest,
-    answers: &mut Answers,
+    answers: &mut Answers<impl Read>,
 ) {
-    stream::tally(answers, stream::BOUNDED);
+    stream::tally(&mut answers.counts, stream::BOUNDED);
     let answer = search::find_nearest_bounded(coords, indices, query, bound, seed);
     searched(answer, answers);
 }
 
-fn nearest(coords: &[f32], indices: &[u32], query: Point3f, answers: &mut Answers) {
-    stream::tally(answers, stream::NEAREST);
+fn nearest(coords: &[f32], indices: &[u32], query: Point3f, answers: &mut Answers<impl Read>) {
+    stream::tally(&mut answers.counts, stream::NEAREST);
     searched(search::find_nearest(coords, indices, query), answers);
 }
 
-fn read_seed(answers: &mut Answers) -> Nearest {
+fn read_seed(answers: &mut Answers<impl Read>) -> Nearest {
     let i = stream::word(answers);
     let d = stream::float(answers);
     if i == KdTree::NO_CHILD {
@@ -132,7 +151,7 @@ fn read_seed(answers: &mut Answers) -> Nearest {
 }
 
 // One query: its entry, its point, the bound, k or radius, the seed; then the Rust's answer.
-fn ask(coords: &[f32], indices: &[u32], answers: &mut Answers) {
+fn ask(coords: &[f32], indices: &[u32], answers: &mut Answers<impl Read>) {
     let entry = stream::word(answers);
     let query = stream::point(answers);
     let given = stream::word(answers);
@@ -144,11 +163,11 @@ fn ask(coords: &[f32], indices: &[u32], answers: &mut Answers) {
         3 => roots(coords, indices, query, given, answers),
         4 => within(coords, indices, query, number, answers),
         5 => nearest(coords, indices, query, answers),
-        _ => stream::tally(answers, stream::DIFFER),
+        _ => stream::tally(&mut answers.counts, stream::DIFFER),
     }
 }
 
-fn ask_all(coords: &[f32], indices: &[u32], queries: usize, answers: &mut Answers) {
+fn ask_all(coords: &[f32], indices: &[u32], queries: usize, answers: &mut Answers<impl Read>) {
     let mut i: usize = 0;
     while i < queries {
         ask(coords, indices, answers);
@@ -157,13 +176,19 @@ fn ask_all(coords: &[f32], indices: &[u32], queries: usize, answers: &mut Answer
 }
 
 // The checking entry says yes, and where the Rust fixes the layout the slots are its.
-fn check(cloud: &[f32], coords: &[f32], indices: &[u32], layout: u32, answers: &mut Answers) {
+fn check(
+    cloud: &[f32],
+    coords: &[f32],
+    indices: &[u32],
+    layout: u32,
+    answers: &mut Answers<impl Read>,
+) {
     let yes = match build::is_tree_of(cloud, coords, indices) {
         Checked::Yes => true,
         Checked::No => false,
         Checked::Refused(_) => false,
     };
-    stream::judge(answers, stream::IS_TREE, yes);
+    stream::judge(&mut answers.counts, stream::IS_TREE, yes);
     if layout == 1 {
         stream::same_indices(indices, answers);
     }
@@ -175,23 +200,24 @@ fn use_tree(
     indices: &[u32],
     layout: u32,
     queries: usize,
-    answers: &mut Answers,
+    answers: &mut Answers<impl Read>,
 ) {
     check(cloud, coords, indices, layout, answers);
     ask_all(coords, indices, queries, answers);
 }
 
-fn grow(cloud: &mut [f32], layout: u32, queries: usize, answers: &mut Answers) {
+fn grow(cloud: &mut [f32], layout: u32, queries: usize, answers: &mut Answers<impl Read>) {
     stream::read_floats(cloud, answers);
     let mut coords = [0.0f32; stream::NUMBERS];
     let mut indices = [0u32; stream::POINTS];
-    let m = slots(build::build(cloud, &mut coords, &mut indices), answers);
+    let built = build::build(cloud, &mut coords, &mut indices);
+    let m = slots(built, &mut answers.counts);
     stream::same_word(m as u32, answers);
     let e = 3 * m;
     use_tree(cloud, &coords[..e], &indices[..m], layout, queries, answers);
 }
 
-pub fn replay(answers: &mut Answers) {
+pub fn replay(answers: &mut Answers<impl Read>) {
     let layout = stream::word(answers);
     let queries = stream::upto(64, answers);
     let n = stream::upto(stream::POINTS, answers);

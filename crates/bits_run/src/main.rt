@@ -82,19 +82,31 @@ fn judge(s: &[u8]) -> u64
     kind
 }
 
-// Counts each record by its verdict; one that is cut short is not right.
-fn count_all(records: &[u8], counts: &mut [u64; 8]) {
-    for record in records.chunks(24) {
-        let k = judge(record) as usize;
-        counts[k] = counts[k].wrapping_add(1);
+// Reads one record and counts it. Answers whether there was one.
+fn read_one(list: &mut impl Read, counts: &mut [u64; 8]) -> io::Result<bool> {
+    let mut record = [0u8; 24];
+    let n = input::read_full(list, &mut record)?;
+    if n == 0 {
+        return Ok(false);
     }
+    let k = judge(&record[..n]) as usize;
+    counts[k] = counts[k].wrapping_add(1);
+    Ok(true)
+}
+
+// A proved loop has to end, and nothing says that the input does: the turns count up to a number that no run reaches.
+fn read_all(list: &mut impl Read, counts: &mut [u64; 8]) -> io::Result<()> {
+    for _ in 0..u64::MAX {
+        if !read_one(list, counts)? {
+            break;
+        }
+    }
+    Ok(())
 }
 
 fn main(rt: HostRuntime) -> io::Result<()> {
-    let mut records = Vec::new(rt.alloc());
-    rt.reader().read_to_end(&mut records)?;
     let mut counts = [0u64; 8];
-    count_all(&records, &mut counts);
+    read_all(&mut rt.reader(), &mut counts)?;
     println!(rt; "next_up {}", counts[1])?;
     println!(rt; "narrow {}", counts[2])?;
     println!(rt; "root_f32 {}", counts[3])?;

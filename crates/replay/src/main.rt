@@ -12,18 +12,18 @@ use stream::{Answers, Counts};
 // The list's first word.
 const MAGIC: u32 = 0x3254_444b;
 
-fn replay_case(answers: &mut Answers) {
-    stream::tally(answers, stream::CASES);
+fn replay_case(answers: &mut Answers<impl Read>) {
+    stream::tally(&mut answers.counts, stream::CASES);
     match stream::word(answers) {
         1 => asked::replay(answers),
         2 => paired::replay(answers),
         3 => placed::replay(answers),
         4 => paired::limits(answers),
-        _ => stream::tally(answers, stream::DIFFER),
+        _ => stream::tally(&mut answers.counts, stream::DIFFER),
     }
 }
 
-fn replay_cases(cases: usize, answers: &mut Answers) {
+fn replay_cases(cases: usize, answers: &mut Answers<impl Read>) {
     let mut i: usize = 0;
     while i < cases {
         replay_case(answers);
@@ -58,11 +58,12 @@ fn write_rest(rt: &impl Print, counts: &Counts) -> io::Result<()> {
 }
 
 fn main(rt: HostRuntime) -> io::Result<()> {
-    let mut list = Vec::new(rt.alloc());
-    rt.reader().read_to_end(&mut list)?;
-    let mut answers = Answers::new(&list);
+    let mut answers = Answers {
+        list: rt.reader(),
+        counts: [0; 20],
+    };
     if stream::word(&mut answers) != MAGIC {
-        stream::tally(&mut answers, stream::DIFFER);
+        stream::tally(&mut answers.counts, stream::DIFFER);
     }
     let cases = stream::upto(65536, &mut answers);
     replay_cases(cases, &mut answers);

@@ -2,10 +2,11 @@
 ghost use Rattle.std.specs.Prelude.{◌≤◌};
 
 use matching::{Limit, Matched, Paired};
-use stream::Answers;
+use std::io::Read;
+use stream::{Answers, Counts};
 use sums::{Collected, CorrespondenceStats};
 
-fn read_limit(answers: &mut Answers) -> Limit {
+fn read_limit(answers: &mut Answers<impl Read>) -> Limit {
     let limited = stream::word(answers);
     let d = stream::float(answers);
     if limited == 1 {
@@ -16,14 +17,14 @@ fn read_limit(answers: &mut Answers) -> Limit {
 }
 
 // A limit, whose bound is compared.
-fn limit(answers: &mut Answers) -> Limit {
+fn limit(answers: &mut Answers<impl Read>) -> Limit {
     let limit = read_limit(answers);
-    stream::tally(answers, stream::LIMIT);
+    stream::tally(&mut answers.counts, stream::LIMIT);
     stream::same_float(matching::max_distance_sq(limit), answers);
     limit
 }
 
-pub fn limits(answers: &mut Answers) {
+pub fn limits(answers: &mut Answers<impl Read>) {
     let n = stream::upto(1024, answers);
     let mut i: usize = 0;
     while i < n {
@@ -33,16 +34,16 @@ pub fn limits(answers: &mut Answers) {
 }
 
 // How many pairs were written; none and a difference where it was refused.
-fn pairs(paired: Paired, answers: &mut Answers) -> usize
+fn pairs(paired: Paired, counts: &mut Counts) -> usize
     ensures { result ≤ 1025 }
 {
-    stream::tally(answers, stream::PAIRS);
+    stream::tally(counts, stream::PAIRS);
     if let Paired::Wrote(n) = paired {
         if n <= stream::POINTS {
             return n;
         }
     }
-    stream::tally(answers, stream::DIFFER);
+    stream::tally(counts, stream::DIFFER);
     0
 }
 
@@ -51,7 +52,7 @@ fn same_list(
     sources: &[u32; stream::POINTS],
     targets: &[u32; stream::POINTS],
     n: usize,
-    answers: &mut Answers,
+    answers: &mut Answers<impl Read>,
 )
     requires { n ≤ 1025 }
 {
@@ -64,28 +65,28 @@ fn same_list(
     }
 }
 
-fn same_pairs(matches: &[u32], answers: &mut Answers) {
+fn same_pairs(matches: &[u32], answers: &mut Answers<impl Read>) {
     let mut sources = [0u32; stream::POINTS];
     let mut targets = [0u32; stream::POINTS];
     let paired = matching::correspondence_pairs(matches, &mut sources, &mut targets);
-    let n = pairs(paired, answers);
+    let n = pairs(paired, &mut answers.counts);
     same_list(&sources, &targets, n, answers);
 }
 
-fn same_sums(s: CorrespondenceStats, answers: &mut Answers) {
+fn same_sums(s: CorrespondenceStats, answers: &mut Answers<impl Read>) {
     stream::same_vector(s.sum_source, answers);
     stream::same_vector(s.sum_target, answers);
     stream::same_vector(s.sum_outer_x, answers);
     stream::same_vector(s.sum_outer_y, answers);
     stream::same_vector(s.sum_outer_z, answers);
     stream::same_double(s.sum_sq_error, answers);
-    stream::tally(answers, stream::MSE);
+    stream::tally(&mut answers.counts, stream::MSE);
     stream::same_float(s.mse(), answers);
 }
 
 // The count, and the sums where they can be equal to the Rust's.
-fn collect(source: &[f32], target: &[f32], matches: &[u32], answers: &mut Answers) {
-    stream::tally(answers, stream::SUMS);
+fn collect(source: &[f32], target: &[f32], matches: &[u32], answers: &mut Answers<impl Read>) {
+    stream::tally(&mut answers.counts, stream::SUMS);
     let comparable = stream::word(answers);
     match CorrespondenceStats::collect(source, target, matches) {
         Collected::Sums(s) => {
@@ -94,16 +95,16 @@ fn collect(source: &[f32], target: &[f32], matches: &[u32], answers: &mut Answer
                 same_sums(s, answers);
             }
         }
-        Collected::Refused(_) => stream::tally(answers, stream::DIFFER),
+        Collected::Refused(_) => stream::tally(&mut answers.counts, stream::DIFFER),
     }
 }
 
-fn done(matched: Matched, answers: &mut Answers) {
+fn done(matched: Matched, counts: &mut Counts) {
     let good = match matched {
         Matched::Done => true,
         Matched::Refused(_) => false,
     };
-    stream::judge(answers, stream::MATCHING, good);
+    stream::judge(counts, stream::MATCHING, good);
 }
 
 fn match_list(
@@ -113,13 +114,13 @@ fn match_list(
     indices: &[u32],
     limit: Limit,
     list: &mut [u32],
-    answers: &mut Answers,
+    answers: &mut Answers<impl Read>,
 ) {
     stream::read_words(list, answers);
     let matched = matching::find_correspondences_seeded(
         source, target, coords, indices, limit, list,
     );
-    done(matched, answers);
+    done(matched, &mut answers.counts);
     stream::same_indices(list, answers);
     same_pairs(list, answers);
     collect(source, target, list, answers);
@@ -132,7 +133,7 @@ fn match_with(
     indices: &[u32],
     limit: Limit,
     n: usize,
-    answers: &mut Answers,
+    answers: &mut Answers<impl Read>,
 )
     requires { n ≤ 1025 }
 {
@@ -153,7 +154,7 @@ fn match_clouds(
     target: &mut [f32],
     limit: Limit,
     n: usize,
-    answers: &mut Answers,
+    answers: &mut Answers<impl Read>,
 )
     requires { n ≤ 1025 }
 {
@@ -161,7 +162,8 @@ fn match_clouds(
     stream::read_floats(target, answers);
     let mut coords = [0.0f32; stream::NUMBERS];
     let mut indices = [0u32; stream::POINTS];
-    let m = asked::slots(build::build(target, &mut coords, &mut indices), answers);
+    let built = build::build(target, &mut coords, &mut indices);
+    let m = asked::slots(built, &mut answers.counts);
     let e = 3 * m;
     match_with(
         source,
@@ -174,7 +176,7 @@ fn match_clouds(
     );
 }
 
-pub fn replay(answers: &mut Answers) {
+pub fn replay(answers: &mut Answers<impl Read>) {
     let limit = limit(answers);
     let n = stream::upto(stream::POINTS, answers);
     let k = stream::upto(stream::POINTS, answers);

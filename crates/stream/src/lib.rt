@@ -1,9 +1,10 @@
-// A list that was read whole, a word at a time, and what is counted of it.
+// A list that is read a word at a time, and what is counted of it.
 #![tactic(auto)]
 
 ghost use Rattle.std.specs.Prelude.{◌<◌, ◌≤◌};
 
 use space::Point3f;
+use std::io::Read;
 use sums::Vector3d;
 
 // Points of a cloud, at most, and their numbers.
@@ -57,36 +58,26 @@ pub const VALUES: usize = 18;
 
 pub const INDICES: usize = 19;
 
-// What is left of the list, and the counts so far.
+// What the list is read from, and the counts so far.
 #[derive(Drop)]
-pub struct Answers<'a> {
-    rest: &'a [u8],
+pub struct Answers<R> {
+    pub list: R,
     pub counts: Counts,
 }
 
-impl<'a> Answers<'a> {
-    // The whole list, of which nothing is counted yet.
-    pub fn new(list: &'a [u8]) -> Answers<'a> {
-        Answers {
-            rest: list,
-            counts: [0; 20],
-        }
-    }
-}
-
-pub fn tally(answers: &mut Answers, k: usize) {
+pub fn tally(counts: &mut Counts, k: usize) {
     if k < 20 {
-        answers.counts[k] = answers.counts[k].wrapping_add(1);
+        counts[k] = counts[k].wrapping_add(1);
     }
 }
 
 // One more of kind k, and a difference if it is not the same.
-pub fn judge(answers: &mut Answers, k: usize, same: bool) {
-    tally(answers, k);
+pub fn judge(counts: &mut Counts, k: usize, same: bool) {
+    tally(counts, k);
     if same {
         return;
     }
-    tally(answers, DIFFER);
+    tally(counts, DIFFER);
 }
 
 fn wide(b: u8) -> u32
@@ -99,31 +90,35 @@ fn joined(b: &[u8; 4]) -> u32 {
     wide(b[0]) + 256 * wide(b[1]) + 65536 * wide(b[2]) + 16777216 * wide(b[3])
 }
 
+// Fills the bytes from the list, and says how many there were; none where it cannot be read.
+fn fill(bytes: &mut [u8; 4], answers: &mut Answers<impl Read>) -> usize {
+    input::read_full(&mut answers.list, bytes).unwrap_or(0)
+}
+
 // The next word; where the list has ended, 0 and a difference.
-pub fn word(answers: &mut Answers) -> u32 {
-    let n = answers.rest.len().min(4);
-    let (front, rest) = answers.rest.split_at(n);
-    answers.rest = rest;
+pub fn word(answers: &mut Answers<impl Read>) -> u32 {
     let mut bytes = [0u8; 4];
-    bytes[..n].copy_from_slice(front);
+    let n = fill(&mut bytes, answers);
     if n != 4 {
-        tally(answers, DIFFER);
+        tally(&mut answers.counts, DIFFER);
     }
     joined(&bytes)
 }
 
 // What is left of the list is a difference.
-pub fn end(answers: &mut Answers) {
-    if !answers.rest.is_empty() {
-        tally(answers, DIFFER);
+pub fn end(answers: &mut Answers<impl Read>) {
+    let mut bytes = [0u8; 4];
+    let n = fill(&mut bytes, answers);
+    if n != 0 {
+        tally(&mut answers.counts, DIFFER);
     }
 }
 
-pub fn float(answers: &mut Answers) -> f32 {
+pub fn float(answers: &mut Answers<impl Read>) -> f32 {
     bits::f32_from_bits(word(answers))
 }
 
-pub fn point(answers: &mut Answers) -> Point3f {
+pub fn point(answers: &mut Answers<impl Read>) -> Point3f {
     let x = float(answers);
     let y = float(answers);
     let z = float(answers);
@@ -131,18 +126,18 @@ pub fn point(answers: &mut Answers) -> Point3f {
 }
 
 // A number of things that follow; one over the most is a difference and stands for none.
-pub fn upto(most: usize, answers: &mut Answers) -> usize
+pub fn upto(most: usize, answers: &mut Answers<impl Read>) -> usize
     ensures { result ≤ most }
 {
     let n = word(answers) as usize;
     if n <= most {
         return n;
     }
-    tally(answers, DIFFER);
+    tally(&mut answers.counts, DIFFER);
     0
 }
 
-pub fn read_floats(out: &mut [f32], answers: &mut Answers) {
+pub fn read_floats(out: &mut [f32], answers: &mut Answers<impl Read>) {
     let mut i: usize = 0;
     while i < out.len() {
         out[i] = float(answers);
@@ -150,7 +145,7 @@ pub fn read_floats(out: &mut [f32], answers: &mut Answers) {
     }
 }
 
-pub fn read_words(out: &mut [u32], answers: &mut Answers) {
+pub fn read_words(out: &mut [u32], answers: &mut Answers<impl Read>) {
     let mut i: usize = 0;
     while i < out.len() {
         out[i] = word(answers);
@@ -158,48 +153,48 @@ pub fn read_words(out: &mut [u32], answers: &mut Answers) {
     }
 }
 
-pub fn same_word(have: u32, answers: &mut Answers) {
+pub fn same_word(have: u32, answers: &mut Answers<impl Read>) {
     let want = word(answers);
-    judge(answers, VALUES, have == want);
+    judge(&mut answers.counts, VALUES, have == want);
 }
 
 // Bits compared, every NaN one pattern.
-pub fn same_float(have: f32, answers: &mut Answers) {
+pub fn same_float(have: f32, answers: &mut Answers<impl Read>) {
     let want = bits::f32_to_bits(float(answers));
-    judge(answers, VALUES, bits::f32_to_bits(have) == want);
+    judge(&mut answers.counts, VALUES, bits::f32_to_bits(have) == want);
 }
 
-fn double(answers: &mut Answers) -> f64 {
+fn double(answers: &mut Answers<impl Read>) -> f64 {
     let low = word(answers) as u64;
     let high = word(answers) as u64;
     bits::f64_from_bits(low + 4294967296 * high)
 }
 
-pub fn same_double(have: f64, answers: &mut Answers) {
+pub fn same_double(have: f64, answers: &mut Answers<impl Read>) {
     let want = bits::f64_to_bits(double(answers));
-    judge(answers, VALUES, bits::f64_to_bits(have) == want);
+    judge(&mut answers.counts, VALUES, bits::f64_to_bits(have) == want);
 }
 
-pub fn same_index(have: u32, answers: &mut Answers) {
+pub fn same_index(have: u32, answers: &mut Answers<impl Read>) {
     let want = word(answers);
     if want != ANY {
-        judge(answers, INDICES, have == want);
+        judge(&mut answers.counts, INDICES, have == want);
     }
 }
 
-pub fn same_point(p: Point3f, answers: &mut Answers) {
+pub fn same_point(p: Point3f, answers: &mut Answers<impl Read>) {
     same_float(p.x, answers);
     same_float(p.y, answers);
     same_float(p.z, answers);
 }
 
-pub fn same_vector(v: Vector3d, answers: &mut Answers) {
+pub fn same_vector(v: Vector3d, answers: &mut Answers<impl Read>) {
     same_double(v.x, answers);
     same_double(v.y, answers);
     same_double(v.z, answers);
 }
 
-pub fn same_indices(list: &[u32], answers: &mut Answers) {
+pub fn same_indices(list: &[u32], answers: &mut Answers<impl Read>) {
     let mut i: usize = 0;
     while i < list.len() {
         same_index(list[i], answers);

@@ -3,7 +3,7 @@ use Prim.Native.Nat.{◌≤◌, ◌-◌}
 use Rattle.asked.proofs.ask_all.Given as goal
 
 abbrev pub invariant-loop-i : goal.invariant-loop-i
-invariant-loop-i l = l.i ≤ l.queries
+invariant-loop-i g l = l.i ≤ l.queries
 
 abbrev pub decreases-loop-i : goal.decreases-loop-i
-decreases-loop-i l = l.queries - l.i
+decreases-loop-i g l = l.queries - l.i

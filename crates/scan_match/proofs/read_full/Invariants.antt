@@ -1,9 +1,0 @@
--- `read_full`: what was read stands at the front of the bytes, and each turn reads more.
-use Rattle.std.proofs.Common.{◌≡◌, ◌≤◌, ◌-◌, length}
-use Rattle.scan_match.proofs.read_full.Given as goal
-
-abbrev pub invariant-loop-n : goal.invariant-loop-n
-invariant-loop-n g l = (l.n ≤ length l.bytes) × (length l.bytes ≡ length l.initial.bytes)
-
-abbrev pub decreases-loop-n : goal.decreases-loop-n
-decreases-loop-n g l = length l.bytes - l.n

@@ -21,7 +21,7 @@ fn write_listed(rt: &impl Print, listed: Listed) -> io::Result<()> {
     match listed {
         Listed::Count(n) => trial::count(rt, wide(n))?,
         Listed::Refused(n) => {
-            trial::word(rt, "refused")?;
+            trial::word(rt, b"refused")?;
             trial::count(rt, wide(n))?;
         }
     }
@@ -30,12 +30,12 @@ fn write_listed(rt: &impl Print, listed: Listed) -> io::Result<()> {
 
 // Both lists whole, with what stood in them beyond the entries.
 fn write_lists(rt: &impl Print, indices: &[u32; 4], distances: &[f32; 4]) -> io::Result<()> {
-    trial::word(rt, ":")?;
+    trial::word(rt, b":")?;
     trial::count(rt, wide(indices[0]))?;
     trial::count(rt, wide(indices[1]))?;
     trial::count(rt, wide(indices[2]))?;
     trial::count(rt, wide(indices[3]))?;
-    trial::word(rt, ":")?;
+    trial::word(rt, b":")?;
     trial::bits_f32(rt, distances[0])?;
     trial::bits_f32(rt, distances[1])?;
     trial::bits_f32(rt, distances[2])?;
@@ -46,11 +46,11 @@ fn write_lists(rt: &impl Print, indices: &[u32; 4], distances: &[f32; 4]) -> io:
 fn write_nearest(rt: &impl Print, answer: Nearest) -> io::Result<()> {
     match answer {
         Nearest::Found(i, d) => {
-            trial::word(rt, "found")?;
+            trial::word(rt, b"found")?;
             trial::count(rt, wide(i))?;
             trial::bits_f32(rt, d)?;
         }
-        Nearest::Nothing => trial::word(rt, "nothing")?,
+        Nearest::Nothing => trial::word(rt, b"nothing")?,
     }
     trial::line(rt)
 }
@@ -59,7 +59,7 @@ fn write_searched(rt: &impl Print, searched: Searched) -> io::Result<()> {
     match searched {
         Searched::Answer(answer) => write_nearest(rt, answer)?,
         Searched::Refused(n) => {
-            trial::word(rt, "refused")?;
+            trial::word(rt, b"refused")?;
             trial::count(rt, wide(n))?;
             trial::line(rt)?;
         }
@@ -89,9 +89,9 @@ fn show_radius(rt: &impl Print, radius: f32) -> io::Result<()> {
         &mut out,
         &mut distances,
     );
-    trial::word(rt, "radius")?;
+    trial::word(rt, b"radius")?;
     trial::bits_f32(rt, radius)?;
-    trial::word(rt, "gives")?;
+    trial::word(rt, b"gives")?;
     write_listed(rt, listed)?;
     write_lists(rt, &out, &distances)
 }
@@ -110,7 +110,7 @@ fn show_k(rt: &impl Print) -> io::Result<()> {
     let mut out = [9u32; 4];
     let mut distances = [0.0f32; 4];
     let listed = lists::find_k_nearest_into(&coords, &indices, query, 4, &mut out, &mut distances);
-    trial::word(rt, "k 4 gives")?;
+    trial::word(rt, b"k 4 gives")?;
     write_listed(rt, listed)?;
     write_lists(rt, &out, &distances)
 }
@@ -118,9 +118,9 @@ fn show_k(rt: &impl Print) -> io::Result<()> {
 // ---- roots and limits
 
 fn show_root(rt: &impl Print, x: f32) -> io::Result<()> {
-    trial::word(rt, "root of")?;
+    trial::word(rt, b"root of")?;
     trial::bits_f32(rt, x)?;
-    trial::word(rt, "is")?;
+    trial::word(rt, b"is")?;
     trial::bits_f32(rt, bits::root::sqrt_f32(x))?;
     trial::line(rt)
 }
@@ -143,12 +143,12 @@ fn show_limit(rt: &impl Print, x: f32, y: f32, d: f32) -> io::Result<()> {
         Limit::At(d),
         &mut matches,
     );
-    trial::word(rt, "limit")?;
+    trial::word(rt, b"limit")?;
     trial::bits_f32(rt, d)?;
-    trial::word(rt, "bound")?;
+    trial::word(rt, b"bound")?;
     trial::bits_f32(rt, matching::max_distance_sq(Limit::At(d)))?;
     match matched {
-        Matched::Done => trial::word(rt, "match")?,
+        Matched::Done => trial::word(rt, b"match")?,
         Matched::Refused(n) => trial::count(rt, wide(n))?,
     }
     trial::count(rt, wide(matches[0]))?;
@@ -162,7 +162,7 @@ fn show_plane(rt: &impl Print) -> io::Result<()> {
     let mut coords = [0.0f32; 9];
     let mut indices = [9u32; 3];
     let built = build::build(&cloud, &mut coords, &mut indices);
-    trial::word(rt, "built")?;
+    trial::word(rt, b"built")?;
     match built {
         Built::Count(n) => trial::count(rt, n as u64)?,
         Built::Refused(n) => trial::count(rt, wide(n))?,
@@ -176,7 +176,7 @@ fn show_plane(rt: &impl Print) -> io::Result<()> {
         y: 0.0,
         z: 0.0,
     };
-    trial::word(rt, "a 0.5 best 0.3")?;
+    trial::word(rt, b"a 0.5 best 0.3")?;
     write_searched(
         rt,
         search::find_nearest_bounded(&coords, &indices, query, 0.3, Nearest::Nothing),
@@ -192,7 +192,7 @@ fn write_sum(rt: &impl Print, collected: Collected) -> io::Result<()> {
             trial::bits_f64(rt, s.sum_source.x)?;
         }
         Collected::Refused(n) => {
-            trial::word(rt, "refused")?;
+            trial::word(rt, b"refused")?;
             trial::count(rt, wide(n))?;
         }
     }
@@ -209,13 +209,13 @@ fn show_runs(rt: &impl Print) -> io::Result<()> {
     matches[0] = 0;
     matches[511] = 0;
     matches[512] = 0;
-    trial::word(rt, "one in the first run")?;
+    trial::word(rt, b"one in the first run")?;
     write_sum(rt, CorrespondenceStats::collect(&source, &target, &matches))?;
     source[1533] = 0.0;
     source[1539] = 1.0;
     matches[511] = KdTree::NO_CHILD;
     matches[513] = 0;
-    trial::word(rt, "both in the second")?;
+    trial::word(rt, b"both in the second")?;
     write_sum(rt, CorrespondenceStats::collect(&source, &target, &matches))
 }
 
@@ -224,7 +224,7 @@ fn show_mse(rt: &impl Print) -> io::Result<()> {
     let mut s = CorrespondenceStats::zero();
     s.count = 49;
     s.sum_sq_error = 1644167119.0;
-    trial::word(rt, "mse")?;
+    trial::word(rt, b"mse")?;
     trial::bits_f32(rt, s.mse())?;
     trial::line(rt)
 }

@@ -34,11 +34,11 @@ fn write_coords(rt: &impl Print, coords: &[f32]) -> io::Result<()> {
 fn write_built(rt: &impl Print, b: Built) -> io::Result<()> {
     match b {
         Built::Count(m) => {
-            trial::word(rt, "built")?;
+            trial::word(rt, b"built")?;
             trial::count(rt, m as u64)?;
         }
         Built::Refused(n) => {
-            trial::word(rt, "refused")?;
+            trial::word(rt, b"refused")?;
             trial::count(rt, n as u64)?;
         }
     }
@@ -47,10 +47,10 @@ fn write_built(rt: &impl Print, b: Built) -> io::Result<()> {
 
 fn write_checked(rt: &impl Print, c: Checked) -> io::Result<()> {
     match c {
-        Checked::Yes => trial::word(rt, "yes")?,
-        Checked::No => trial::word(rt, "no")?,
+        Checked::Yes => trial::word(rt, b"yes")?,
+        Checked::No => trial::word(rt, b"no")?,
         Checked::Refused(n) => {
-            trial::word(rt, "refused")?;
+            trial::word(rt, b"refused")?;
             trial::count(rt, n as u64)?;
         }
     }

@@ -12,7 +12,7 @@ fn write_point(rt: &impl Print, p: Point3f) -> io::Result<()> {
 }
 
 fn write_refused(rt: &impl Print, n: u32) -> io::Result<()> {
-    trial::word(rt, "refused")?;
+    trial::word(rt, b"refused")?;
     trial::count(rt, n as u64)
 }
 
@@ -21,14 +21,14 @@ fn write_frame(rt: &impl Print, f: LocalFrame, p: Point3f) -> io::Result<()> {
     trial::bits_f64(rt, o.x)?;
     trial::bits_f64(rt, o.y)?;
     trial::bits_f64(rt, o.z)?;
-    trial::word(rt, "local")?;
+    trial::word(rt, b"local")?;
     write_point(rt, f.point_to_local(p))
 }
 
 fn show_scale(rt: &impl Print, cloud: &[f32]) -> io::Result<()> {
     match CloudScale::of(cloud) {
         Scaled::Scale(s) => {
-            trial::word(rt, "scale")?;
+            trial::word(rt, b"scale")?;
             write_point(rt, s.centroid)?;
             trial::bits_f32(rt, s.radius)?;
         }
@@ -41,7 +41,7 @@ fn show_scale(rt: &impl Print, cloud: &[f32]) -> io::Result<()> {
 fn show_centred(rt: &impl Print, cloud: &[f32], p: Point3f) -> io::Result<()> {
     match LocalFrame::centred_on(cloud) {
         Centred::Frame(f) => {
-            trial::word(rt, "centred")?;
+            trial::word(rt, b"centred")?;
             write_frame(rt, f, p)?;
         }
         Centred::Refused(n) => write_refused(rt, n)?,
@@ -52,10 +52,10 @@ fn show_centred(rt: &impl Print, cloud: &[f32], p: Point3f) -> io::Result<()> {
 fn show_far(rt: &impl Print, cloud: &[f32], p: Point3f) -> io::Result<()> {
     match LocalFrame::if_far_from_origin(cloud) {
         Framed::Frame(f) => {
-            trial::word(rt, "far")?;
+            trial::word(rt, b"far")?;
             write_frame(rt, f, p)?;
         }
-        Framed::NoFrame => trial::word(rt, "near")?,
+        Framed::NoFrame => trial::word(rt, b"near")?,
         Framed::Refused(n) => write_refused(rt, n)?,
     }
     trial::line(rt)

@@ -26,7 +26,7 @@ fn write_distance(rt: &impl Print, list: &[f32], i: usize) -> io::Result<()> {
 
 // A list of at most five.
 fn write_indices(rt: &impl Print, list: &[u32]) -> io::Result<()> {
-    trial::word(rt, ":")?;
+    trial::word(rt, b":")?;
     write_index(rt, list, 0)?;
     write_index(rt, list, 1)?;
     write_index(rt, list, 2)?;
@@ -35,7 +35,7 @@ fn write_indices(rt: &impl Print, list: &[u32]) -> io::Result<()> {
 }
 
 fn write_distances(rt: &impl Print, list: &[f32]) -> io::Result<()> {
-    trial::word(rt, ":")?;
+    trial::word(rt, b":")?;
     write_distance(rt, list, 0)?;
     write_distance(rt, list, 1)?;
     write_distance(rt, list, 2)?;
@@ -46,11 +46,11 @@ fn write_distances(rt: &impl Print, list: &[f32]) -> io::Result<()> {
 fn write_listed(rt: &impl Print, listed: Listed) -> io::Result<()> {
     match listed {
         Listed::Count(n) => {
-            trial::word(rt, "count")?;
+            trial::word(rt, b"count")?;
             trial::count(rt, n as u64)?;
         }
         Listed::Refused(number) => {
-            trial::word(rt, "refused")?;
+            trial::word(rt, b"refused")?;
             trial::count(rt, number as u64)?;
         }
     }

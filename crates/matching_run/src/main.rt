@@ -1,10 +1,7 @@
 // The limit, the pair list, a target point and matching, run on small inputs: what is written is compared with the file `stdout`.
 #![tactic(auto)]
 
-ghost use Rattle.std.specs.Prelude.{◌≤◌};
-
 use matching::{Limit, Matched, Paired};
-use std::alloc::Global;
 use std::io;
 use tree::KdTree;
 
@@ -73,11 +70,11 @@ fn show_pairs(
 ) -> io::Result<()> {
     match matching::correspondence_pairs(matches, sources, targets) {
         Paired::Refused(n) => {
-            trial::word(rt, "refused")?;
+            trial::word(rt, b"refused")?;
             trial::count(rt, n as u64)?;
         }
         Paired::Wrote(n) => {
-            trial::word(rt, "pairs")?;
+            trial::word(rt, b"pairs")?;
             trial::count(rt, n as u64)?;
         }
     }
@@ -110,12 +107,15 @@ fn show_short_pair_lists(rt: &impl Print) -> io::Result<()> {
 }
 
 // As many entries as are allowed, and one more, which is refused before the short lists are.
-fn show_long_pair_lists(rt: &impl Print, alloc: Global, most: usize) -> io::Result<()>
-    requires { most ≤ 1048576 }
-{
-    let matches = vec![in alloc; 7u32; most + 1]?;
-    show_pairs(rt, &matches[..most], &mut [91u32], &mut [81u32])?;
-    show_pairs(rt, &matches, &mut [91u32], &mut [81u32])
+fn show_long_lists(rt: &impl Print, matches: &[u32; 1048577]) -> io::Result<()> {
+    let m = &matches[..];
+    let k: usize = 1048576;
+    show_pairs(rt, &m[0..k], &mut [91u32], &mut [81u32])?;
+    show_pairs(rt, m, &mut [91u32], &mut [81u32])
+}
+
+fn show_long_pair_lists(rt: &impl Print) -> io::Result<()> {
+    show_long_lists(rt, &[7u32; 1048577])
 }
 
 fn show_matching(
@@ -129,10 +129,10 @@ fn show_matching(
 ) -> io::Result<()> {
     match matching::find_correspondences_seeded(source, target, coords, indices, limit, matches) {
         Matched::Refused(n) => {
-            trial::word(rt, "refused")?;
+            trial::word(rt, b"refused")?;
             trial::count(rt, n as u64)?;
         }
-        Matched::Done => trial::word(rt, "done")?,
+        Matched::Done => trial::word(rt, b"done")?,
     }
     trial::line(rt)?;
     write_list(rt, matches)
@@ -327,7 +327,7 @@ fn main(rt: HostRuntime) -> io::Result<()> {
     show_parts(&rt)?;
     show_pair_lists(&rt)?;
     show_short_pair_lists(&rt)?;
-    show_long_pair_lists(&rt, rt.alloc(), 1048576)?;
+    show_long_pair_lists(&rt)?;
     show_example(&rt)?;
     show_seeds(&rt)?;
     show_limit_zero(&rt)?;

@@ -8,11 +8,11 @@ use std::io;
 fn write_nearest(rt: &impl Print, answer: Nearest) -> io::Result<()> {
     match answer {
         Nearest::Found(i, d) => {
-            trial::word(rt, "found")?;
+            trial::word(rt, b"found")?;
             trial::count(rt, i as u64)?;
             trial::bits_f32(rt, d)?;
         }
-        Nearest::Nothing => trial::word(rt, "nothing")?,
+        Nearest::Nothing => trial::word(rt, b"nothing")?,
     }
     trial::line(rt)
 }
@@ -21,7 +21,7 @@ fn write_searched(rt: &impl Print, searched: Searched) -> io::Result<()> {
     match searched {
         Searched::Answer(answer) => write_nearest(rt, answer)?,
         Searched::Refused(number) => {
-            trial::word(rt, "refused")?;
+            trial::word(rt, b"refused")?;
             trial::count(rt, number as u64)?;
             trial::line(rt)?;
         }

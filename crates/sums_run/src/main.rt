@@ -33,7 +33,7 @@ fn write_vector(rt: &impl Print, v: Vector3d) -> io::Result<()> {
 
 // The count, the sums as bits, and the MSE.
 fn write_sums(rt: &impl Print, s: CorrespondenceStats) -> io::Result<()> {
-    trial::word(rt, "count")?;
+    trial::word(rt, b"count")?;
     trial::count(rt, s.count as u64)?;
     trial::line(rt)?;
     write_vector(rt, s.sum_source)?;
@@ -50,7 +50,7 @@ fn show(rt: &impl Print, source: &[f32], target: &[f32], matches: &[u32]) -> io:
     match CorrespondenceStats::collect(source, target, matches) {
         Collected::Sums(s) => write_sums(rt, s)?,
         Collected::Refused(n) => {
-            trial::word(rt, "refused")?;
+            trial::word(rt, b"refused")?;
             trial::count(rt, n as u64)?;
             trial::line(rt)?;
         }

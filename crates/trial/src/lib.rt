@@ -38,8 +38,9 @@ pub fn line(rt: &impl Print) -> io::Result<()> {
     println!(rt)
 }
 
-pub fn word(rt: &impl Print, text: &str) -> io::Result<()> {
-    print!(rt; " {text}")
+pub fn word(rt: &impl Print, text: &[u8]) -> io::Result<()> {
+    rt.write_all(b" ")?;
+    rt.write_all(text)
 }
 
 pub fn count(rt: &impl Print, n: u64) -> io::Result<()> {
@@ -49,7 +50,7 @@ pub fn count(rt: &impl Print, n: u64) -> io::Result<()> {
 // Every NaN is written as one word, since a NaN's bits are not fixed.
 pub fn bits_f32(rt: &impl Print, x: f32) -> io::Result<()> {
     if x != x {
-        return word(rt, "nan");
+        return word(rt, b"nan");
     }
     let b = f32::to_bits(x);
     print!(rt; " {b:08x}")
@@ -57,7 +58,7 @@ pub fn bits_f32(rt: &impl Print, x: f32) -> io::Result<()> {
 
 pub fn bits_f64(rt: &impl Print, x: f64) -> io::Result<()> {
     if x != x {
-        return word(rt, "nan");
+        return word(rt, b"nan");
     }
     let b = f64::to_bits(x);
     print!(rt; " {b:016x}")

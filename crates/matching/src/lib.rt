@@ -237,7 +237,7 @@ fn match_point(
     i: usize,
 )
     requires entry_inside { (i < 1048576) × (i < length matches.old) × (3 * i + 3 ≤ length source.now) }
-    requires coords_len { (length coords.now ≡ 3 * length indices.now) × (length indices.now ≤ 1048576) }
+    requires slots_fit { (length coords.now ≡ 3 * length indices.now) × (length indices.now ≤ 1048576) }
     requires seed_inside { (get_or matches.old i 0 ≡ no_match → ⊥) → (get_or matches.old i 0 < 1048576) × (3 * get_or matches.old i 0 + 3 ≤ length target.now) }
     ensures { matches.new ≡ set matches.old i (match_of (answer_for source.now target.now coords.now indices.now bound_sq i (get_or matches.old i 0))) }
 {

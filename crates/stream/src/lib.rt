@@ -90,27 +90,22 @@ fn joined(b: &[u8; 4]) -> u32 {
     wide(b[0]) + 256 * wide(b[1]) + 65536 * wide(b[2]) + 16777216 * wide(b[3])
 }
 
-// Fills the bytes from the list, and says how many there were; none where it cannot be read.
-fn fill(bytes: &mut [u8; 4], answers: &mut Answers<impl Read>) -> usize {
-    input::read_full(&mut answers.list, bytes).unwrap_or(0)
-}
-
-// The next word; where the list has ended, 0 and a difference.
+// The next word; where the list has ended or cannot be read, 0 and a difference.
 pub fn word(answers: &mut Answers<impl Read>) -> u32 {
     let mut bytes = [0u8; 4];
-    let n = fill(&mut bytes, answers);
+    let n = input::read_full(&mut answers.list, &mut bytes).unwrap_or(0);
     if n != 4 {
         tally(&mut answers.counts, DIFFER);
     }
     joined(&bytes)
 }
 
-// What is left of the list is a difference.
+// What is left of the list is a difference, and so is an end that cannot be read.
 pub fn end(answers: &mut Answers<impl Read>) {
     let mut bytes = [0u8; 4];
-    let n = fill(&mut bytes, answers);
-    if n != 0 {
-        tally(&mut answers.counts, DIFFER);
+    match input::read_full(&mut answers.list, &mut bytes) {
+        Ok(0) => {}
+        _ => tally(&mut answers.counts, DIFFER),
     }
 }
 

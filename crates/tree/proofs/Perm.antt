@@ -1,4 +1,4 @@
--- Laws of permutations (`List.Permᴰ`, mathlib's derivations) over native numbers, and of two elements that change places. Assumes nothing.
+-- Laws of permutations (mathlib's derivations `Permᴰ`) over native numbers, and of two elements that change places. Assumes nothing.
 use mathlib.Core.Path.{◌≡◌, refl, sym, ap, ◌∙◌, subst}
 use mathlib.Core.Logic.{⊎_elim, ◌≢◌}
 use mathlib.Core.List.{List, [], ◌∷◌, ◌++◌}

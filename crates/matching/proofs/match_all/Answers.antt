@@ -13,7 +13,7 @@ match_point-requires c =
     let p = c.requires in
     let t = c.loop-i.invariant in
     let h : c.loop-i.i < length a.matches.now = omega arith in
-    record { entry_inside = place a.source.now a.target.now a.coords.now a.indices.now a.bound_sq t h p; coords_len = (p.tree_whole, p.few_slots); seed_inside = present a.source.now a.target.now a.coords.now a.indices.now a.bound_sq t h p }
+    record { entry_inside = place a.source.now a.target.now a.coords.now a.indices.now a.bound_sq t h p; slots_fit = (p.tree_whole, p.few_slots); seed_inside = present a.source.now a.target.now a.coords.now a.indices.now a.bound_sq t h p }
 
 pub overflow_add-i : goal.overflow_add-i
 overflow_add-i c = omega arith

@@ -1,5 +1,5 @@
--- `ask_all`: the walk ends.
-use Prim.Native.Nat.{◌≤◌, ◌-◌}
+-- `ask_all`: the loop ends.
+use Rattle.std.proofs.Common.{◌≤◌, ◌-◌}
 use Rattle.asked.proofs.ask_all.Given as goal
 
 abbrev pub invariant-loop-i : goal.invariant-loop-i

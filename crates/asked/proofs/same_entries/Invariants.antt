@@ -1,5 +1,5 @@
--- `same_entries`: the walk ends.
-use Prim.Native.Nat.{◌≤◌, ◌-◌}
+-- `same_entries`: the loop ends.
+use Rattle.std.proofs.Common.{◌≤◌, ◌-◌}
 use Rattle.asked.proofs.same_entries.Given as goal
 
 abbrev pub invariant-loop-i : goal.invariant-loop-i

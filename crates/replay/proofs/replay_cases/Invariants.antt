@@ -1,5 +1,5 @@
--- `replay_cases`: the walk ends.
-use Prim.Native.Nat.{◌≤◌, ◌-◌}
+-- `replay_cases`: the loop ends.
+use Rattle.std.proofs.Common.{◌≤◌, ◌-◌}
 use Rattle.replay.proofs.replay_cases.Given as goal
 
 abbrev pub invariant-loop-i : goal.invariant-loop-i

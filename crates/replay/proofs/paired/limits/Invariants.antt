@@ -1,5 +1,5 @@
--- `limits`: the walk ends.
-use Prim.Native.Nat.{◌≤◌, ◌-◌}
+-- `limits`: the loop ends.
+use Rattle.std.proofs.Common.{◌≤◌, ◌-◌}
 use Rattle.replay.proofs.paired.limits.Given as goal
 
 abbrev pub invariant-loop-i : goal.invariant-loop-i

@@ -1,5 +1,5 @@
--- `same_list`: the walk ends.
-use Prim.Native.Nat.{◌≤◌, ◌-◌}
+-- `same_list`: the loop ends.
+use Rattle.std.proofs.Common.{◌≤◌, ◌-◌}
 use Rattle.replay.proofs.paired.same_list.Given as goal
 
 abbrev pub invariant-loop-i : goal.invariant-loop-i

@@ -1,5 +1,5 @@
--- `locals`: the walk ends.
-use Prim.Native.Nat.{◌≤◌, ◌-◌}
+-- `locals`: the loop ends.
+use Rattle.std.proofs.Common.{◌≤◌, ◌-◌}
 use Rattle.replay.proofs.placed.locals.Given as goal
 
 abbrev pub invariant-loop-i : goal.invariant-loop-i

@@ -3,146 +3,174 @@
 
 ghost use Rattle.std.specs.Prelude.{◌≤◌};
 
-use build::{Built, Checked};
-use lists::Listed;
-use search::{Nearest, Searched};
+use search::Nearest;
 use space::Point3f;
 use std::io::Read;
-use stream::{Answers, Counts};
-use tree::KdTree;
+use stream::{Answers, Kind};
+use tree::{KdTree, Refusal};
 
-// The slots that were built; none and a difference where it was refused.
-pub fn slots(built: Built, counts: &mut Counts) -> usize
+// The slots that were built of a cloud.
+#[derive(Drop)]
+pub struct Slots {
+    coords: [f32; stream::NUMBERS],
+    indices: [u32; stream::POINTS],
+    count: usize,
+    ghost lent: { count ≤ 1025 },
+}
+
+// How many were written; none and a difference where it was refused.
+pub fn written(told: Result<usize, Refusal>, answers: &mut Answers<impl Read>) -> usize
     ensures { result ≤ 1025 }
 {
-    stream::tally(counts, stream::BUILD);
-    if let Built::Count(m) = built {
-        if m <= stream::POINTS {
-            return m;
+    if let Ok(n) = told {
+        if n <= stream::POINTS {
+            return n;
         }
     }
-    stream::tally(counts, stream::DIFFER);
+    answers.tally(Kind::Differ);
     0
 }
 
-fn found(answer: Nearest, answers: &mut Answers<impl Read>) {
-    match answer {
-        Nearest::Found(i, d) => {
-            stream::same_word(1, answers);
-            stream::same_index(i, answers);
-            stream::same_float(d, answers);
-        }
-        Nearest::Nothing => stream::same_word(0, answers),
-    }
-}
-
-fn searched(answer: Searched, answers: &mut Answers<impl Read>) {
-    match answer {
-        Searched::Answer(a) => found(a, answers),
-        Searched::Refused(_) => stream::tally(&mut answers.counts, stream::DIFFER),
-    }
-}
-
-// How many entries were written; none and a difference where it was refused.
-fn entries(listed: Listed, counts: &mut Counts) -> usize
-    ensures { result ≤ 1025 }
-{
-    if let Listed::Count(n) = listed {
-        let k = n as usize;
-        if k <= stream::POINTS {
-            return k;
+impl Slots {
+    pub fn build(cloud: &[f32], answers: &mut Answers<impl Read>) -> Slots {
+        let mut coords = [0.0; stream::NUMBERS];
+        let mut indices = [0; stream::POINTS];
+        let built = build::build(cloud, &mut coords, &mut indices);
+        answers.tally(Kind::Build);
+        let count = written(built, answers);
+        Slots {
+            coords,
+            indices,
+            count,
         }
     }
-    stream::tally(counts, stream::DIFFER);
-    0
+
+    pub fn coords(&self) -> &[f32] {
+        &self.coords[..3 * self.count]
+    }
+
+    pub fn indices(&self) -> &[u32] {
+        &self.indices[..self.count]
+    }
+
+    fn nearest(&self, query: Point3f, answers: &mut Answers<impl Read>) {
+        answers.tally(Kind::Nearest);
+        let told = search::find_nearest(self.coords(), self.indices(), query);
+        same_nearest(told, answers);
+    }
+
+    fn bounded(&self, query: Point3f, bound: f32, seed: Nearest, answers: &mut Answers<impl Read>) {
+        answers.tally(Kind::Bounded);
+        let told = search::find_nearest_bounded(self.coords(), self.indices(), query, bound, seed);
+        same_nearest(told, answers);
+    }
+
+    fn squares(&self, query: Point3f, k: u32, answers: &mut Answers<impl Read>) {
+        answers.tally(Kind::Squares);
+        same_entries(
+            |found, far| {
+                lists::find_k_nearest_into(
+                    self.coords(),
+                    self.indices(),
+                    query,
+                    k as usize,
+                    found,
+                    far,
+                )
+            },
+            answers,
+        );
+    }
+
+    fn roots(&self, query: Point3f, k: u32, answers: &mut Answers<impl Read>) {
+        answers.tally(Kind::Roots);
+        same_entries(
+            |found, far| {
+                lists::find_k_nearest(self.coords(), self.indices(), query, k as usize, found, far)
+            },
+            answers,
+        );
+    }
+
+    fn within(&self, query: Point3f, radius: f32, answers: &mut Answers<impl Read>) {
+        answers.tally(Kind::Radius);
+        same_entries(
+            |found, far| {
+                radius::find_radius_neighbors(
+                    self.coords(),
+                    self.indices(),
+                    query,
+                    radius,
+                    found,
+                    far,
+                )
+            },
+            answers,
+        );
+    }
+
+    // One query: its entry, its point, the bound, k or radius, the seed; then the Rust's answer. The numbers of the entries are the
+    // list's and are read here alone: an enum would only repeat the arms.
+    fn ask(&self, answers: &mut Answers<impl Read>) {
+        let entry = answers.word();
+        let query = answers.point();
+        let given = answers.word();
+        let seed = read_seed(answers);
+        let number = bits::f32_from_bits(given);
+        match entry {
+            1 => self.bounded(query, number, seed, answers),
+            2 => self.squares(query, given, answers),
+            3 => self.roots(query, given, answers),
+            4 => self.within(query, number, answers),
+            5 => self.nearest(query, answers),
+            _ => answers.tally(Kind::Differ),
+        }
+    }
+
+    // The checking entry says yes, and where the Rust fixes the layout the slots are its.
+    fn check(&self, cloud: &[f32], layout: u32, answers: &mut Answers<impl Read>) {
+        let yes = build::is_tree_of(cloud, self.coords(), self.indices()).unwrap_or(false);
+        answers.judge(Kind::IsTree, yes);
+        // A flag of the list, read here alone.
+        if layout == 1 {
+            answers.same_indices(self.indices());
+        }
+    }
 }
 
-// The first n entries, as many as the Rust has.
-fn same_entries(
-    found: &[u32; stream::POINTS],
-    far: &[f32; stream::POINTS],
-    n: usize,
+fn same_nearest(told: Result<Nearest, Refusal>, answers: &mut Answers<impl Read>) {
+    match told {
+        Ok(Nearest::Found(i, d)) => {
+            answers.same_word(1);
+            answers.same_index(i);
+            answers.same_float(d);
+        }
+        Ok(Nearest::Nothing) => answers.same_word(0),
+        Err(_) => answers.tally(Kind::Differ),
+    }
+}
+
+// A search into lists with room for every slot: its entries, as many as the Rust has.
+fn same_entries<F: FnOnce(&mut [u32], &mut [f32]) -> Result<u32, Refusal>>(
+    search: F,
     answers: &mut Answers<impl Read>,
 )
-    requires { n ≤ 1025 }
+    requires { F.IsAlwaysCallable search }
 {
-    stream::same_word(n as u32, answers);
-    let mut i: usize = 0;
-    while i < n {
-        stream::same_index(found[i], answers);
-        stream::same_float(far[i], answers);
-        i += 1;
+    let mut found = [0; stream::POINTS];
+    let mut far = [0.0; stream::POINTS];
+    let told = search(&mut found, &mut far);
+    let n = written(told.map(|n| n as usize), answers);
+    answers.same_word(n as u32);
+    for (&i, &d) in found[..n].iter().zip(&far[..n]) {
+        answers.same_index(i);
+        answers.same_float(d);
     }
-}
-
-fn squares(
-    coords: &[f32],
-    indices: &[u32],
-    query: Point3f,
-    k: u32,
-    answers: &mut Answers<impl Read>,
-) {
-    let mut found = [0u32; stream::POINTS];
-    let mut far = [0.0f32; stream::POINTS];
-    let k = k as usize;
-    let listed = lists::find_k_nearest_into(coords, indices, query, k, &mut found, &mut far);
-    stream::tally(&mut answers.counts, stream::SQUARES);
-    let n = entries(listed, &mut answers.counts);
-    same_entries(&found, &far, n, answers);
-}
-
-fn roots(
-    coords: &[f32],
-    indices: &[u32],
-    query: Point3f,
-    k: u32,
-    answers: &mut Answers<impl Read>,
-) {
-    let mut found = [0u32; stream::POINTS];
-    let mut far = [0.0f32; stream::POINTS];
-    let k = k as usize;
-    let listed = lists::find_k_nearest(coords, indices, query, k, &mut found, &mut far);
-    stream::tally(&mut answers.counts, stream::ROOTS);
-    let n = entries(listed, &mut answers.counts);
-    same_entries(&found, &far, n, answers);
-}
-
-fn within(
-    coords: &[f32],
-    indices: &[u32],
-    query: Point3f,
-    r: f32,
-    answers: &mut Answers<impl Read>,
-) {
-    let mut found = [0u32; stream::POINTS];
-    let mut far = [0.0f32; stream::POINTS];
-    let listed = radius::find_radius_neighbors(coords, indices, query, r, &mut found, &mut far);
-    stream::tally(&mut answers.counts, stream::RADIUS);
-    let n = entries(listed, &mut answers.counts);
-    same_entries(&found, &far, n, answers);
-}
-
-fn bounded(
-    coords: &[f32],
-    indices: &[u32],
-    query: Point3f,
-    bound: f32,
-    seed: Nearest,
-    answers: &mut Answers<impl Read>,
-) {
-    stream::tally(&mut answers.counts, stream::BOUNDED);
-    let answer = search::find_nearest_bounded(coords, indices, query, bound, seed);
-    searched(answer, answers);
-}
-
-fn nearest(coords: &[f32], indices: &[u32], query: Point3f, answers: &mut Answers<impl Read>) {
-    stream::tally(&mut answers.counts, stream::NEAREST);
-    searched(search::find_nearest(coords, indices, query), answers);
 }
 
 fn read_seed(answers: &mut Answers<impl Read>) -> Nearest {
-    let i = stream::word(answers);
-    let d = stream::float(answers);
+    let i = answers.word();
+    let d = answers.float();
     if i == KdTree::NO_CHILD {
         Nearest::Nothing
     } else {
@@ -150,78 +178,17 @@ fn read_seed(answers: &mut Answers<impl Read>) -> Nearest {
     }
 }
 
-// One query: its entry, its point, the bound, k or radius, the seed; then the Rust's answer.
-fn ask(coords: &[f32], indices: &[u32], answers: &mut Answers<impl Read>) {
-    let entry = stream::word(answers);
-    let query = stream::point(answers);
-    let given = stream::word(answers);
-    let seed = read_seed(answers);
-    let number = bits::f32_from_bits(given);
-    match entry {
-        1 => bounded(coords, indices, query, number, seed, answers),
-        2 => squares(coords, indices, query, given, answers),
-        3 => roots(coords, indices, query, given, answers),
-        4 => within(coords, indices, query, number, answers),
-        5 => nearest(coords, indices, query, answers),
-        _ => stream::tally(&mut answers.counts, stream::DIFFER),
-    }
-}
-
-fn ask_all(coords: &[f32], indices: &[u32], queries: usize, answers: &mut Answers<impl Read>) {
-    let mut i: usize = 0;
-    while i < queries {
-        ask(coords, indices, answers);
-        i += 1;
-    }
-}
-
-// The checking entry says yes, and where the Rust fixes the layout the slots are its.
-fn check(
-    cloud: &[f32],
-    coords: &[f32],
-    indices: &[u32],
-    layout: u32,
-    answers: &mut Answers<impl Read>,
-) {
-    let yes = match build::is_tree_of(cloud, coords, indices) {
-        Checked::Yes => true,
-        Checked::No => false,
-        Checked::Refused(_) => false,
-    };
-    stream::judge(&mut answers.counts, stream::IS_TREE, yes);
-    if layout == 1 {
-        stream::same_indices(indices, answers);
-    }
-}
-
-fn use_tree(
-    cloud: &[f32],
-    coords: &[f32],
-    indices: &[u32],
-    layout: u32,
-    queries: usize,
-    answers: &mut Answers<impl Read>,
-) {
-    check(cloud, coords, indices, layout, answers);
-    ask_all(coords, indices, queries, answers);
-}
-
-fn grow(cloud: &mut [f32], layout: u32, queries: usize, answers: &mut Answers<impl Read>) {
-    stream::read_floats(cloud, answers);
-    let mut coords = [0.0f32; stream::NUMBERS];
-    let mut indices = [0u32; stream::POINTS];
-    let built = build::build(cloud, &mut coords, &mut indices);
-    let m = slots(built, &mut answers.counts);
-    stream::same_word(m as u32, answers);
-    let e = 3 * m;
-    use_tree(cloud, &coords[..e], &indices[..m], layout, queries, answers);
-}
-
 pub fn replay(answers: &mut Answers<impl Read>) {
-    let layout = stream::word(answers);
-    let queries = stream::upto(64, answers);
-    let n = stream::upto(stream::POINTS, answers);
-    let mut cloud = [0.0f32; stream::NUMBERS];
-    let e = 3 * n;
-    grow(&mut cloud[..e], layout, queries, answers);
+    let layout = answers.word();
+    let queries = answers.up_to(64);
+    let n = answers.up_to(stream::POINTS);
+    let mut numbers = [0.0; stream::NUMBERS];
+    let cloud = &mut numbers[..3 * n];
+    answers.read_floats(cloud);
+    let slots = Slots::build(cloud, answers);
+    answers.same_word(slots.count as u32);
+    slots.check(cloud, layout, answers);
+    for _ in 0..queries {
+        slots.ask(answers);
+    }
 }

@@ -1,6 +1,6 @@
 -- `next_up x` is the least f32 above x: it is above x, whatever number below infinity x is (`next-above`), and at most any f32 above x (`next-least`),
 -- so that none lies between (`next-none-between`). Assumes nothing.
-use Rattle.std.proofs.Common.{◌≡◌, ℕ, zero, suc, ◌+◌, ◌-◌, ◌*◌, ◌/◌, ◌%◌, ◌<◌, ◌≤◌, Bool, true, false, cond, not, T, eqb, ltb, ℤ, pos, negsuc, sym, refl, ap, ◌∙◌, subst, le_trans, le_of_eq, lt_of_le_of_lt, add_comm, one-mul, lt_of_not-le, zero-add, zero-mul, arith, lt→ltb, le-ltb, lt-ltb}
+use Rattle.std.proofs.Common.{◌≡◌, ℕ, zero, suc, ◌+◌, ◌-◌, ◌*◌, ◌/◌, ◌%◌, ◌<◌, ◌≤◌, Bool, true, false, cond, not, T, eqb, ltb, ℤ, negsuc, sym, refl, ap, ◌∙◌, subst, le_trans, le_of_eq, lt_of_le_of_lt, add_comm, one-mul, lt_of_not-le, zero-add, zero-mul, arith, lt→ltb, le-ltb, lt-ltb}
 use lib.Ieee.{Float, nan, inf, fin, binary32, up, down, odd, of_fields, fits, is_nan, to_bits, of_bits, nan_bits, neg, below, lt, le}
 use lib.Ieee.Bits.{of_bits-to_bits, to_bits-of_bits, to_bits-lt, of_bits-fits, nan_bits_is}
 use lib.Ieee.Fits.{down_pos}
@@ -8,7 +8,7 @@ use Rattle.bits.specs.Key.{turned, key}
 use Rattle.bits.specs.NextUp.{next_up}
 use Rattle.bits.proofs.Tests.{no_nan}
 use Rattle.bits.proofs.Pattern.{read}
-use Rattle.bits.proofs.NextUp.{minus-bits, zero_bits, plus-bits, turn, rising-number, falling-number}
+use Rattle.bits.proofs.NextUp.{minus-bits, zero_bits, plus-bits, minus-over, turn, rising-number, falling-number}
 use Rattle.bits.proofs.Compare.{number, number_is, plus, lt-number-l, lt-number-r, lt_not_le}
 use Rattle.bits.proofs.Keys.{key-le, key-lt}
 
@@ -39,14 +39,6 @@ key-rises m e f =
   where
     more : (b : ℕ) → 2147483648 + (b + 1) ≡ suc (2147483648 + b)
     more b = omega arith
-
--- a negative value that is no zero has a pattern above that of -0
-no_zero : (m : ℕ) (e : ℤ) → T (fits binary32 (fin true (suc m) e)) → to_bits binary32 (fin true (suc m) e) ≡ 2147483648 → ⊥
-unfolding of_bits
-no_zero m e f h =
-    let p : fin true (suc m) e ≡ fin true 0 (pos 0) = sym (of_bits-to_bits binary32 (fin true (suc m) e) f) ∙ ap (λ (b : ℕ). of_bits binary32 b) h in
-    let q : suc m ≡ 0 = cc in
-    omega arith
 
 module _ (x : Float) (f : T (fits binary32 x)) (n : T (not (is_nan x))) (l : 2147483648 < to_bits binary32 x) where
   falling-next : T (not (nan_bits binary32 (to_bits binary32 x - 1)))
@@ -89,12 +81,6 @@ higher x y f g h = lt_of_not-le (λ (k : key y ≤ key x). lt_not_le x y h (key-
 
 by_key : (x y : Float) → T (fits binary32 x) → T (fits binary32 y) → T (number (next_up x)) → key (next_up x) ≡ suc (key x) → T (lt x y) → T (le (next_up x) y)
 by_key x y f g n e h = key-le (next_up x) y (fits_next x) g n (lt-number-r x y h) (le_trans (le_of_eq e) (higher x y f g h))
-
-minus-over : (m : ℕ) (e : ℤ) → T (fits binary32 (fin true (suc m) e)) → 2147483648 < to_bits binary32 (fin true (suc m) e)
-minus-over m e f = over (to_bits binary32 (fin true (suc m) e)) (to_bits binary32 (fin false (suc m) e)) (minus-bits (suc m) e) (no_zero m e f)
-  where
-    over : (b a : ℕ) → b ≡ 2147483648 + a → (b ≡ 2147483648 → ⊥) → 2147483648 < b
-    over b a e h = omega arith
 
 inf-over : 2147483648 < to_bits binary32 (inf true)
 unfolding to_bits

@@ -3,8 +3,8 @@ pub mod Compare
 pub mod Keys
 pub mod Tests
 pub mod Pattern
-pub mod Narrowing
 pub mod NextUp
+pub mod Std
 pub mod Least
 pub mod WholeRoot
 pub mod RootNearest
@@ -14,6 +14,7 @@ pub mod RootSteps
 pub mod RootGuess
 pub mod RootCode
 pub mod RootBits
+pub mod RootScaled
 pub mod RootTable
 pub mod Determined
 pub mod Table

@@ -5,7 +5,7 @@ use mathlib.Core.Bool.{false≢true}
 use native.Mathlib.Nat.{div-eq_of_lt, le-suc}
 use lib.Dec.{nleb→lt, not_T}
 use lib.Arith.{lt→nleb, lt_of_le-ne}
-use lib.Ieee.{Float, nan, inf, fin, Format, binary32, binary64, prec, low, up, down, odd, lt, div, fits, is_nan, hid, ones, top, of_fields, of_bits, nan_bits, to_bits}
+use lib.Ieee.{Float, nan, inf, fin, Format, binary32, binary64, prec, low, up, down, odd, lt, fits, is_nan, hid, ones, top, of_fields, of_bits, nan_bits, to_bits}
 use lib.Ieee.Fits.{up_pos}
 use lib.Ieee.Exact.{HasValue, odd_sign}
 use lib.Ieee.Bits.{is_true, is_false, cond_no, of_bits-to_bits, to_bits-lt, nan_bits_is, nan_bits_above}
@@ -187,13 +187,14 @@ level-root f (fin s zero e) h k = refl
 level-root f (fin true (suc m) e) h k = absurd (subst T k (lt→ltb 0 (suc m * up e * 1 + 0 * 1 * down e) (lt_of_lt_of_le (some m e) (le-add_right (suc m * up e * 1) (0 * 1 * down e)))))
 level-root f (fin false (suc m) e) h k = absurd (subst T h (lt→ltb (0 * 1 * down e) (suc m * up e * 1) (subst (λ (y : ℕ). y < suc m * up e * 1) (sym (zero-mul (down e))) (some m e))))
 
-made-nan : (f : Format) → div f (of_bits f 0) (of_bits f 0) ≡ nan
-unfolding div of_bits
-made-nan binary32 = refl
-made-nan binary64 = refl
+-- the pattern that the code has for a NaN
+written-nan : (f : Format) → of_bits f (ones f * hid f + hid f / 2) ≡ nan
+unfolding of_bits
+written-nan binary32 = refl
+written-nan binary64 = refl
 
-pub negative-root : (f : Format) (x : Float) → lt x (of_bits f 0) ≡ true → div f (of_bits f 0) (of_bits f 0) ≡ root f x
-negative-root f x h = made-nan f ∙ sym (below_root f x (under-nought f x h))
+pub negative-root : (f : Format) (x : Float) → lt x (of_bits f 0) ≡ true → of_bits f (ones f * hid f + hid f / 2) ≡ root f x
+negative-root f x h = written-nan f ∙ sym (below_root f x (under-nought f x h))
 
 pub own_root : (f : Format) (x : Float) → lt (of_bits f 0) x ≡ false → lt x (of_bits f 0) ≡ false → x ≡ root f x
 own_root f x h k = level-root f x (over-nought f x h) (under-nought f x k)

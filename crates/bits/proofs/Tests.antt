@@ -1,12 +1,9 @@
--- What the tests of the code say of a value and of its bits: whether it is a NaN, and that any other value's bits are at most infinity's. Assumes nothing.
-use Rattle.std.proofs.Common.{◌≡◌, ℕ, ◌+◌, ◌*◌, ◌/◌, ◌%◌, ◌<◌, ◌≤◌, Bool, true, false, not, T, sym, refl, ap, ◌∙◌, subst, true≢false, lt→ltb, nltb→le}
+-- A value that equals itself is no NaN, and its bits without the sign are at most infinity's. Assumes nothing.
+use Rattle.std.proofs.Common.{◌≡◌, ℕ, ◌*◌, ◌%◌, ◌≤◌, Bool, false, not, T, sym, ap, ◌∙◌, subst, true≢false, nltb→le}
 use lib.Arith.{le→nltb}
-use lib.Ieee.{Float, nan, inf, fin, Format, binary32, binary64, hid, ones, top, to_bits, of_bits, nan_bits, fits, is_nan, ne, div}
+use lib.Ieee.{Float, nan, inf, fin, Format, hid, ones, top, to_bits, nan_bits, fits, is_nan, ne}
 use lib.Ieee.Bits.{of_bits-to_bits, nan_bits_is, nan_bits_above}
-use lib.Ieee.Compare.{differs_from_itself, nan_differs}
-
-pub is-nan : (x : Float) → ne x x ≡ true → x ≡ nan
-is-nan x e = differs_from_itself x (subst T (sym e) tt)
+use lib.Ieee.Compare.{nan_differs}
 
 pub not-nan : (x : Float) → ne x x ≡ false → T (not (is_nan x))
 unfolding is_nan
@@ -21,23 +18,3 @@ pub number-bits : (f : Format) (x : Float) → T (fits f x) → T (not (is_nan x
 number-bits f x h n =
     let b = to_bits f x in
     nltb→le (ones f * hid f) (b % top f) (subst (λ (z : Bool). T (not z)) (sym (ap is_nan (of_bits-to_bits f x h)) ∙ sym (nan_bits_is f b) ∙ nan_bits_above f b) n)
-
--- a pattern above infinity's is a NaN's
-only_nan : (x : Float) → T (is_nan x) → x ≡ nan
-unfolding is_nan
-only_nan nan t = refl
-only_nan (inf s) t = absurd t
-only_nan (fin s m e) t = absurd t
-
-pub nan-above : (f : Format) (b : ℕ) → ones f * hid f < b % top f → of_bits f b ≡ nan
-nan-above f b h = only_nan (of_bits f b) (subst T (sym (nan_bits_above f b) ∙ nan_bits_is f b) (lt→ltb (ones f * hid f) (b % top f) h))
-
--- 0 / 0, by which the code writes a NaN, and the pattern that `to_bits` writes for it
-pub no_number : (f : Format) → div f (of_bits f 0) (of_bits f 0) ≡ nan
-unfolding div of_bits
-no_number binary32 = refl
-no_number binary64 = refl
-
-pub nan-bits : (f : Format) → to_bits f nan ≡ ones f * hid f + hid f / 2
-unfolding to_bits
-nan-bits f = refl

@@ -3,30 +3,31 @@
 #![tactic(auto)]
 
 ghost use Rattle.std.specs.Prelude.{◌≡◌, ◌+◌, ◌/◌, ◌%◌, ◌<◌, ◌≤◌, length};
-ghost use Rattle.bits_run.specs.Record.{half_at, word_at, lower, upper, result_of, judged};
+ghost use Rattle.bits_run.specs.Record.{word_at, lower, upper, result_of, judged};
 
 use std::io;
 use std::io::Read;
 
-fn wide(b: u8) -> u64
-    ensures { (result ≡ b) × (result < 256) }
-{
-    b as u64
-}
+// The functions by their numbers, from 1 on.
+const FUNCTIONS: [&str; 7] = [
+    "next_up", "narrow", "root_f32", "root_f64", "finite", "widen", "order",
+];
 
-// Four bytes from i on, the lowest first.
-fn half(s: &[u8], i: usize) -> u64
-    requires { (i + 4 ≤ length s.now) × (i < 24) }
-    ensures { (result ≡ half_at s.now i) × (result < 4294967296) }
-{
-    wide(s[i]) + (wide(s[i + 1]) * 256 + (wide(s[i + 2]) * 65536 + wide(s[i + 3]) * 16777216))
-}
-
+// Eight bytes from i on, the lowest first.
 fn word(s: &[u8], i: usize) -> u64
-    requires { (i + 8 ≤ length s.now) × (i < 20) }
+    requires { i + 8 ≤ length s.now }
     ensures { result ≡ word_at s.now i }
 {
-    half(s, i) + half(s, i + 4) * 4294967296
+    u64::from_le_bytes([
+        s[i],
+        s[i + 1],
+        s[i + 2],
+        s[i + 3],
+        s[i + 4],
+        s[i + 5],
+        s[i + 6],
+        s[i + 7],
+    ])
 }
 
 // The f32 whose bits are the lower half of x, and the upper.
@@ -43,29 +44,24 @@ fn high(x: u64) -> f32
 }
 
 // What the function of a number gives at x, in bits.
+#[tactic(auto, unfolding(crate::specs::Record::result_of))]
 fn result(kind: u64, x: u64) -> u64
     ensures { result ≡ result_of kind x }
 {
-    if kind == 1 {
-        bits::f32_to_bits(bits::next_up(low(x))) as u64
-    } else if kind == 2 {
-        bits::f32_to_bits(bits::narrow(bits::f64_from_bits(x))) as u64
-    } else if kind == 3 {
-        bits::f32_to_bits(bits::root::sqrt_f32(low(x))) as u64
-    } else if kind == 4 {
-        bits::f64_to_bits(bits::root::sqrt_f64(bits::f64_from_bits(x)))
-    } else if kind == 5 {
-        bits::is_finite(low(x)) as u64
-    } else if kind == 6 {
-        bits::f64_to_bits(bits::widen(low(x)))
-    } else if kind == 7 {
-        (bits::key(low(x)) < bits::key(high(x))) as u64
-    } else {
-        0
+    match kind {
+        1 => bits::f32_to_bits(bits::next_up(low(x))) as u64,
+        2 => bits::f32_to_bits(bits::narrow(bits::f64_from_bits(x))) as u64,
+        3 => bits::f32_to_bits(bits::root::sqrt_f32(low(x))) as u64,
+        4 => bits::f64_to_bits(bits::root::sqrt_f64(bits::f64_from_bits(x))),
+        5 => bits::is_finite(low(x)) as u64,
+        6 => bits::f64_to_bits(bits::widen(low(x))),
+        7 => (bits::key(low(x)) < bits::key(high(x))) as u64,
+        _ => 0,
     }
 }
 
-// The number of the record's function, if the record is whole and right, and 0 if it is not.
+// The number of the record's function, if the record is whole and right, and 0 if it is not: the place at which it is counted.
+#[tactic(auto, unfolding(crate::specs::Record::judged))]
 fn judge(s: &[u8]) -> u64
     ensures { (result ≡ judged s.now) × (result < 8) }
 {
@@ -107,12 +103,8 @@ fn read_all(list: &mut impl Read, counts: &mut [u64; 8]) -> io::Result<()> {
 fn main(rt: HostRuntime) -> io::Result<()> {
     let mut counts = [0u64; 8];
     read_all(&mut rt.reader(), &mut counts)?;
-    println!(rt; "next_up {}", counts[1])?;
-    println!(rt; "narrow {}", counts[2])?;
-    println!(rt; "root_f32 {}", counts[3])?;
-    println!(rt; "root_f64 {}", counts[4])?;
-    println!(rt; "finite {}", counts[5])?;
-    println!(rt; "widen {}", counts[6])?;
-    println!(rt; "order {}", counts[7])?;
+    for (name, count) in FUNCTIONS.iter().zip(&counts[1..]) {
+        println!(rt; "{name} {count}")?;
+    }
     println!(rt; "differ {}", counts[0])
 }

@@ -1,53 +1,31 @@
 -- The laws of `build`'s answer: each refusal, and what stands in the lent lists on success. Assumes nothing.
 use mathlib.Core.Path.{◌≡◌, refl, sym, ap, ap₂, ◌∙◌, subst}
+use Rattle.std.proofs.Common.{Ok}
 use mathlib.Core.List.{List, [], ◌∷◌, ◌++◌}
-use Prim.Native.Nat.{ℕ, ◌*◌, ◌%◌, ◌≤◌, ◌<◌}
+use Prim.Native.Nat.{ℕ, ◌*◌, ◌%◌, ◌≤◌}
 use native.Mathlib.Omega.{arith}
 use lib.ListN.{length, take, drop, length-map}
 use lib.Seq.{take_at, length-take-le}
 use lib.Ieee.{Float}
-use borrow.Author.Tests.{eq-eqb, ne_eqb, lt-ltb, le-ltb}
+use borrow.Author.Tests.{eq-eqb, le-ltb}
 use Rattle.tree.specs.Slots.{Slot, numbers_of, indices_of}
 use Rattle.tree.specs.Part.{laid}
 use Rattle.tree.specs.Grow.{grow}
 use Rattle.tree.specs.Cloud.{indexed, tree_of}
-use Rattle.tree.specs.Refuse.{refused, gives, returned, left, count, most_points, overwrite}
+use Rattle.tree.specs.Refuse.{gives, returned, left, count, most_points, overwrite}
 use Rattle.tree.proofs.Slots.{indices-length}
 use Rattle.tree.proofs.Cloud.{indexed-length, indexed-is, tree_of-is}
-use Rattle.build.specs.declared.Built.TheVariants.{Count, Refused}
 use Rattle.select.specs.Order.{slot_of, slots_of, Inside}
 use Rattle.build.specs.Gather.{Gathered}
 use Rattle.build.specs.Entries.{written, building, Builds}
 use Rattle.build.proofs.Gathering.{indices_inside, slots_of-indexed}
 
 module _ (cloud cs : List Float) (is : List ℕ) where
-  -- ---- refusals
-
-  builds-refused : (k : ℕ) → building cloud cs is ≡ refused k → Builds cloud cs is (Refused k) cs is
-  builds-refused k e = record { answer = rw e; coords = rw e; indices = rw e }
-
-  pub refused-1 : (length cloud % 3 ≡ 0 → ⊥) → Builds cloud cs is (Refused 1) cs is
-  refused-1 h = builds-refused 1 (rw (ne_eqb (length cloud % 3) 0 h))
-
-  module _ (whole : length cloud % 3 ≡ 0) where
-    pub refused-2 : most_points < count cloud → Builds cloud cs is (Refused 2) cs is
-    refused-2 h = builds-refused 2 (rw (eq-eqb (length cloud % 3) 0 whole, lt-ltb most_points (count cloud) h))
-
-    module _ (few : count cloud ≤ most_points) where
-      pub refused-3 : length cs < 3 * count cloud → Builds cloud cs is (Refused 3) cs is
-      refused-3 h =
-          builds-refused 3
-          (rw (eq-eqb (length cloud % 3) 0 whole, le-ltb most_points (count cloud) few, lt-ltb (length cs) (3 * count cloud) h))
-
-      module _ (room : 3 * count cloud ≤ length cs) where
-        pub refused-3' : length is < count cloud → Builds cloud cs is (Refused 3) cs is
-        refused-3' h =
-            builds-refused 3
-            (rw (eq-eqb (length cloud % 3) 0 whole, le-ltb most_points (count cloud) few, le-ltb (length cs) (3 * count cloud) room, lt-ltb (length is) (count cloud) h))
-
-        pub accepted : count cloud ≤ length is → building cloud cs is ≡ gives (written cloud cs is)
-        accepted h =
-            rw (eq-eqb (length cloud % 3) 0 whole, le-ltb most_points (count cloud) few, le-ltb (length cs) (3 * count cloud) room, le-ltb (length is) (count cloud) h)
+  -- room enough: what is given
+  pub accepted : length cloud % 3 ≡ 0 → count cloud ≤ most_points → 3 * count cloud ≤ length cs → count cloud ≤ length is
+      → building cloud cs is ≡ gives (written cloud cs is)
+  accepted whole few room h =
+      rw (eq-eqb (length cloud % 3) 0 whole, le-ltb most_points (count cloud) few, le-ltb (length cs) (3 * count cloud) room, le-ltb (length is) (count cloud) h)
 
 indices-of : (cloud : List Float) (is : List ℕ) → indices_of (slots_of cloud is) ≡ is
 unfolding indices_of
@@ -101,7 +79,7 @@ module _ (cloud cs : List Float) (is : List ℕ) (m : ℕ) (i1 : List ℕ) (g : 
           coords-are : c1 ≡ overwrite (numbers_of (laid (tree_of cloud))) cs
           coords-are = wrote ∙ ap (λ (u : List Slot). overwrite (numbers_of u) cs) (ap (slots_of cloud) front-is ∙ tree_is)
 
-          pub success : building cloud cs is ≡ gives (written cloud cs is) → Builds cloud cs is (Count m) c1 (j ++ drop m i1)
+          pub success : building cloud cs is ≡ gives (written cloud cs is) → Builds cloud cs is (Ok m) c1 (j ++ drop m i1)
           unfolding written
           success e =
               record {

@@ -1,18 +1,20 @@
 -- The laws of looking for a point from the root of lent slots, and of counting the indexed ones. Assumes nothing.
-use mathlib.Core.Path.{◌≡◌, refl, sym, ap, ap₂, ◌∙◌, subst}
+use mathlib.Core.Path.{◌≡◌, refl, sym, ap, ap₂, ◌∙◌, subst, subst₂}
 use mathlib.Core.Bool.{Bool, true, false, cond}
 use mathlib.Core.Logic.{◌↔◌}
-use mathlib.Core.List.{List, [], ◌∷◌}
-use Prim.Native.Nat.{ℕ, ◌+◌, ◌-◌, ◌/◌, ◌≤◌, ◌<◌}
-use native.Mathlib.Numerals.{add-one}
+use mathlib.Core.List.{List, [], ◌∷◌, ◌++◌}
+use Prim.Native.Nat.{ℕ, zero, suc, ◌+◌, ◌-◌, ◌/◌, ◌≤◌, ◌<◌}
 use native.Mathlib.Omega.{arith}
 use lib.Dec.{T, eqb}
 use lib.ListN.{length, get_or, length-append}
 use lib.Ieee.{Float, binary32, fits}
 use borrow.Author.Tests.{eqb-true, eqb-false}
+use Rattle.std.specs.Bool.{MatchBool}
+use Rattle.std.specs.List.{filter, range_with_len, AllWithin, HoldsAt}
+use Rattle.std.proofs.lemmas.List.Elements.{filter-append}
+use Rattle.std.proofs.lemmas.List.FromFn.{length-range_with_len, get_or-range_with_len}
 use Rattle.bits.specs.Key.{key}
 use Rattle.bits.proofs.Keys.{key-inj}
-use Rattle.space.specs.declared.Point3f.{Point3f}
 use Rattle.tree.specs.Slots.{Slot, slot, point_at, none, slots, rank}
 use Rattle.tree.specs.Part.{Part, split, lent}
 use Rattle.tree.specs.Grow.{next_axis}
@@ -20,7 +22,7 @@ use Rattle.tree.specs.Cloud.{finite_point}
 use Rattle.tree.specs.Refuse.{count}
 use Rattle.tree.proofs.Slots.{slots_length, slots-get_or}
 use Rattle.tree.proofs.Shape.{group, group-step, group-zero, group-all}
-use Rattle.tree.proofs.Cloud.{up_to, if_finite, up_to-suc}
+use Rattle.tree.proofs.Cloud.{up_to, if_finite, up_to-zero, up_to-suc}
 use Rattle.tree.proofs.Descent.{Reached, reached-empty, reached-here, reached-left, reached-right}
 use Rattle.select.specs.Order.{slot_of}
 use Rattle.build.specs.Check.{Decides, Found}
@@ -31,34 +33,12 @@ pub decides-by : {P Q : Type 0} (b : Bool) → P ↔ Q → Decides b Q → Decid
 decides-by true i d = i.1 d
 decides-by false i d = λ p. d (i.0 p)
 
-pub decides-no : {P : Type 0} (b : Bool) → b ≡ false → Decides b P → P → ⊥
-decides-no {P} b e d = subst (λ (c : Bool). Decides c P) e d
-
-pub decides-yes : {P : Type 0} (b : Bool) → b ≡ true → Decides b P → P
-decides-yes {P} b e d = subst (λ (c : Bool). Decides c P) e d
-
 pub same_keys : (x y : Float) (a b : ℕ) → T (fits binary32 x) → T (fits binary32 y) → a ≡ key x → b ≡ key y → Decides (eqb a b) (x ≡ y)
 same_keys x y a b f g e h = go (eqb a b) refl
   where
     go : (c : Bool) → eqb a b ≡ c → Decides c (x ≡ y)
     go true q = key-inj x y f g (sym e ∙ eqb-true a b q ∙ h)
     go false q = λ r. eqb-false a b q (e ∙ ap key r ∙ sym h)
-
--- ---- one slot
-
-module _ (p q : Point3f) (i j : ℕ) where
-  pub other-index : (j ≡ i → ⊥) → slot p i ≡ slot q j → ⊥
-  other-index h e = h (sym (ap (λ (s : Slot). s.index) e))
-
-  pub other-x : (p.x ≡ q.x → ⊥) → slot p i ≡ slot q j → ⊥
-  other-x h e = h (ap (λ (s : Slot). s.point.x) e)
-
-  pub other-y : (p.y ≡ q.y → ⊥) → slot p i ≡ slot q j → ⊥
-  other-y h e = h (ap (λ (s : Slot). s.point.y) e)
-
-  pub by-z : (b : Bool) → j ≡ i → p.x ≡ q.x → p.y ≡ q.y → Decides b (p.z ≡ q.z) → Decides b (slot p i ≡ slot q j)
-  by-z true e f g d = λ t. record { point = record { x = f t; y = g t; z = d t }; index = sym e t }
-  by-z false e f g d = λ h. d (ap (λ (s : Slot). s.point.z) h)
 
 -- ---- the way down
 
@@ -121,14 +101,15 @@ module _ (s : Slot) (coords : List Float) (indices : List ℕ) where
               same = through split-same (through (reached-left axis s here left right h) (equal (ap (λ (a : ℕ). Reached a s left) (sym next))));
             }
 
-        pub descending-right : rank axis (slot (point_at coords start) (get_or indices start 0)) < rank axis s → Descending s coords indices (start + 1 + (n - 1) / 2) (n - 1 - (n - 1) / 2) deeper
+        pub descending-right : rank axis (slot (point_at coords start) (get_or indices start 0)) < rank axis s → Descending s coords indices (start + (1 + (n - 1) / 2)) (n - (1 + (n - 1) / 2)) deeper
         unfolding here right
         descending-right h =
-            record {
+            subst₂ (λ (a b : ℕ). Descending s coords indices a b deeper) (omega arith) (omega arith)
+            (record {
               within = omega (arith, g.within);
               small = low;
               same = through split-same (through (reached-right axis s here left right h) (equal (ap (λ (a : ℕ). Reached a s right) (sym next))));
-            }
+            })
 
       pub descending-here : rank axis s ≡ rank axis (slot (point_at coords start) (get_or indices start 0))
           → Reached 0 s (lent coords indices) ↔ (s ≡ slot (point_at coords start) (get_or indices start 0))
@@ -149,21 +130,40 @@ module _ (cloud coords : List Float) (indices : List ℕ) (i : ℕ) where
 
 -- ---- how many are indexed
 
-one_more : (cloud : List Float) (i : ℕ) → length (if_finite cloud i) ≡ cond (finite_point (point_at cloud i)) 1 0
-one_more cloud i = go (finite_point (point_at cloud i))
+more-range : (a n j : ℕ) → a + n ≡ j → range_with_len a (suc n) ≡ range_with_len a n ++ j ∷ []
+more-range a zero j e = ap (λ (u : ℕ). u ∷ []) (omega arith)
+more-range a (suc n) j e = ap (λ (u : List ℕ). a ∷ u) (more-range (a + 1) n j (omega arith))
+
+abbrev is_indexed : List Float → ℕ → Bool
+is_indexed cloud i = finite_point (point_at cloud i)
+
+one_more : (cloud : List Float) (i : ℕ) → length (filter (is_indexed cloud) (i ∷ [])) ≡ length (if_finite cloud i)
+one_more cloud i = go (is_indexed cloud i)
   where
-    go : (b : Bool) → length (cond b (slot (point_at cloud i) i ∷ []) []) ≡ cond b 1 0
+    go : (b : Bool) → length {A = ℕ} (cond b (i ∷ []) []) ≡ length (cond b (slot (point_at cloud i) i ∷ []) [])
     go true = refl
     go false = refl
 
-pub counted-further : (cloud : List Float) (i m r : ℕ) → i < count cloud → m ≡ length (up_to cloud i) → r ≡ cond (finite_point (point_at cloud i)) 1 0
-    → m + r ≡ length (up_to cloud (i + 1))
-counted-further cloud i m r h e f =
-    sym
-    (ap (λ (n : ℕ). length (up_to cloud n)) (add-one i)
-    ∙ ap length (up_to-suc cloud i h)
-    ∙ length-append (up_to cloud i) (if_finite cloud i)
-    ∙ ap₂ (λ (a b : ℕ). a + b) (sym e) (one_more cloud i ∙ sym f))
+pub counted : (cloud : List Float) (n : ℕ) → n ≤ count cloud → length (filter (λ i. finite_point (point_at cloud i)) (range_with_len 0 n)) ≡ length (up_to cloud n)
+counted cloud zero h = ap length (sym (up_to-zero cloud))
+counted cloud (suc n) h =
+    let before = range_with_len 0 n in
+    ap (λ (u : List ℕ). length (filter (is_indexed cloud) u)) (more-range 0 n n (omega arith))
+    ∙ ap length (filter-append (is_indexed cloud) before (n ∷ []))
+    ∙ length-append (filter (is_indexed cloud) before) (filter (is_indexed cloud) (n ∷ []))
+    ∙ ap₂ (λ (a b : ℕ). a + b) (counted cloud n (omega arith)) (one_more cloud n)
+    ∙ sym (ap length (up_to-suc cloud n h) ∙ length-append (up_to cloud n) (if_finite cloud n))
 
-pub one-by : (b : Bool) (f : Bool) → b ≡ f → cond b 1 0 ≡ cond {A = ℕ} f 1 0
-one-by b f e = ap (λ (c : Bool). cond c 1 0) e
+-- what is asked of every number below n
+pub all-decided : (P : ℕ → Type 0) (n : ℕ) (r : Bool)
+    → MatchBool r (AllWithin P (range_with_len 0 n) 0 (length (range_with_len 0 n))) ((k : ℕ) × (k < length (range_with_len 0 n)) × HoldsAt (λ i. P i → ⊥) (range_with_len 0 n) k)
+    → Decides r ((k : ℕ) → k < n → P k)
+all-decided P n true h =
+    λ k b.
+    let e : get_or (range_with_len 0 n) k 0 ≡ k = omega (arith, get_or-range_with_len 0 n k 0 b) in
+    subst P e (h k 0 (omega arith) (omega (arith, length-range_with_len 0 n)))
+all-decided P n false w =
+    λ h.
+    let b : w.0 < n = omega (arith, w.1, length-range_with_len 0 n) in
+    let e : get_or (range_with_len 0 n) w.0 0 ≡ w.0 = omega (arith, get_or-range_with_len 0 n w.0 0 b) in
+    w.2 0 (subst P (sym e) (h w.0 b))

@@ -16,16 +16,7 @@ use Rattle.tree.specs.Refuse.{count, most_points}
 use Rattle.tree.proofs.Slots.{indices-append}
 use Rattle.tree.proofs.Cloud.{up_to, if_finite, up_to-zero, up_to-suc, up_to-all, up_to-length, Indexed, indexed-slot}
 use Rattle.select.specs.Order.{slots_of, Inside}
-use Rattle.build.specs.Gather.{Kept, Gathered}
-
--- ---- one point
-
-module _ (cloud : List Float) (i m : ℕ) (l : List ℕ) where
-  pub kept-yes : finite_point (point_at cloud i) ≡ true → Kept cloud i m l (m + 1) (set l m i)
-  kept-yes e = record { count = rw e; list = rw e }
-
-  pub kept-no : finite_point (point_at cloud i) ≡ false → Kept cloud i m l m l
-  kept-no e = record { count = rw e; list = rw e }
+use Rattle.build.specs.Gather.{Gathered}
 
 -- ---- the loop: where it stands after i points
 
@@ -57,9 +48,9 @@ module _ (cloud : List Float) (i m : ℕ) (l l1 : List ℕ) (more : i < count cl
   with_it : (b : Bool) → finite_point (point_at cloud i) ≡ b → up_to cloud (i + 1) ≡ up_to cloud i ++ cond b (slot (point_at cloud i) i ∷ []) []
   with_it b e = grown ∙ ap (λ (c : Bool). up_to cloud i ++ cond c (slot (point_at cloud i) i ∷ []) []) e
 
-  step : (b : Bool) → finite_point (point_at cloud i) ≡ b → Gathering cloud (i + 1) (cond b (m + 1) m) l (cond b (set l1 m i) l1)
+  pub gathering-yes : finite_point (point_at cloud i) ≡ true → Gathering cloud (i + 1) (m + 1) l (set l1 m i)
   unfolding indices_of
-  step true e =
+  gathering-yes e =
       record {
         count = omega (arith, g.count, ap length (with_it true e), length-append (up_to cloud i) (slot (point_at cloud i) i ∷ []));
         front =
@@ -69,12 +60,11 @@ module _ (cloud : List Float) (i m : ℕ) (l l1 : List ℕ) (more : i < count cl
             ∙ sym (ap indices_of (with_it true e) ∙ indices-append (up_to cloud i) (slot (point_at cloud i) i ∷ []));
         rest = drop-set-lt (m + 1) l1 m i (omega arith) ∙ further m (m + 1) l1 l (omega arith) g.rest;
       }
-  step false e =
+
+  pub gathering-no : finite_point (point_at cloud i) ≡ false → Gathering cloud (i + 1) m l l1
+  gathering-no e =
       let same : up_to cloud (i + 1) ≡ up_to cloud i = with_it false e ∙ append-nil (up_to cloud i) in
       record { count = g.count ∙ ap length (sym same); front = g.front ∙ ap indices_of (sym same); rest = g.rest }
-
-  pub gathering-step : (r : ℕ) (l2 : List ℕ) → Kept cloud i m l1 r l2 → Gathering cloud (i + 1) r l l2
-  gathering-step r l2 k = rw (k.count, k.list) (step (finite_point (point_at cloud i)) refl)
 
 pub gathering-end : (cloud : List Float) (i m : ℕ) (l l' : List ℕ) → count cloud ≤ i → Gathering cloud i m l l' → Gathered cloud m l l'
 gathering-end cloud i m l l' h g =

@@ -66,7 +66,3 @@ laid-further cloud is i old cs h k e =
 
     more-long : length (numbers_of (slots_of cloud (take (i + 1) is))) ≡ 3 * i + 3
     more-long = ap length more ∙ length-append done (p.x ∷ p.y ∷ p.z ∷ []) ∙ ap (λ (n : ℕ). n + 3) done-long
-
-pub overwritten : (cloud : List Float) (is : List ℕ) (i m : ℕ) (old cs : List Float) → i ≡ m → cs ≡ overwrite (numbers_of (slots_of cloud (take i is))) old
-    → cs ≡ overwrite (numbers_of (slots_of cloud (take m is))) old
-overwritten cloud is i m old cs e f = f ∙ ap (λ (n : ℕ). overwrite (numbers_of (slots_of cloud (take n is))) old) e

@@ -16,10 +16,10 @@ use Rattle.tree.specs.Grow.{grow}
 use Rattle.tree.specs.Cloud.{points, finite_point, finite_from, indexed, tree_of}
 use Rattle.tree.proofs.Descent.{Reached}
 use Rattle.build.specs.Check.{Decides, Found}
-use Rattle.build.specs.Gather.{Kept, Gathered}
-use Rattle.build.specs.Entries.{written, building, outcome_of, Builds, same_slots, checking, checked_of}
-use Rattle.build.specs.declared.Built.TheVariants.{Count, Refused}
-use Rattle.build.specs.declared.Checked.TheVariants as Says
+use Rattle.build.specs.Gather.{Gathered}
+use Rattle.build.specs.Entries.{written, building, Builds, same_slots, checking}
+use Rattle.std.proofs.Common.{Ok, Err}
+use Rattle.tree.specs.declared.Refusal.TheVariants.{UnfitLengths}
 
 abbrev o : Float
 o = fin false 0 (pos 0)
@@ -39,14 +39,14 @@ room6 = o ∷ o ∷ o ∷ o ∷ o ∷ i ∷ []
 
 record Table : Type 0 where
   -- "Build returns m and writes 3m numbers and m indices"; what is beyond keeps its value
-  wild-built : Builds wild room6 (8 ∷ 9 ∷ []) (Count 1) (i ∷ o ∷ v ∷ o ∷ o ∷ i ∷ []) (1 ∷ 9 ∷ [])
+  wild-built : Builds wild room6 (8 ∷ 9 ∷ []) (Ok 1) (i ∷ o ∷ v ∷ o ∷ o ∷ i ∷ []) (1 ∷ 9 ∷ [])
   -- "build needs 3n numbers and n indices": by n, and both
   room-by-n : returned (λ w. w.slots) (building wild (o ∷ o ∷ o ∷ []) (8 ∷ [])) ≡ refused 3
   room-of-numbers : returned (λ w. w.slots) (building wild (o ∷ o ∷ o ∷ o ∷ o ∷ []) (8 ∷ 9 ∷ [])) ≡ refused 3
   room-of-indices : returned (λ w. w.slots) (building wild room6 (8 ∷ [])) ≡ refused 3
   -- 1 before 3, and a refusal leaves every lent number as it was
-  ragged-first : Builds (i ∷ i ∷ i ∷ i ∷ []) (v ∷ []) (9 ∷ []) (Refused 1) (v ∷ []) (9 ∷ [])
-  none : Builds [] (v ∷ []) (9 ∷ []) (Count 0) (v ∷ []) (9 ∷ [])
+  ragged-first : Builds (i ∷ i ∷ i ∷ i ∷ []) (v ∷ []) (9 ∷ []) (Err UnfitLengths) (v ∷ []) (9 ∷ [])
+  none : Builds [] (v ∷ []) (9 ∷ []) (Ok 0) (v ∷ []) (9 ∷ [])
   -- "says yes exactly when the lent slots are the tree of the lent cloud"
   yes : checking wild (i ∷ o ∷ v ∷ []) (1 ∷ []) ≡ gives true
   yes-none : checking [] [] [] ≡ gives true
@@ -64,11 +64,9 @@ record Table : Type 0 where
   -- refused before it is judged
   ragged-cloud : checking (o ∷ []) [] [] ≡ refused 1
   uneven-slots : checking wild (i ∷ o ∷ v ∷ i ∷ []) (1 ∷ []) ≡ refused 1
-  -- the cases of the answers
-  cases : (outcome_of (Count 7) ≡ gives 7) × (outcome_of (Refused 3) ≡ refused 3) × (checked_of Says.Yes ≡ gives true) × (checked_of Says.No ≡ gives false) × (checked_of (Says.Refused 2) ≡ refused 2)
   -- inside the functions: a point that is not finite is not kept, and is not asked to be reached
-  kept : Kept wild 1 0 (8 ∷ 9 ∷ []) 1 (1 ∷ 9 ∷ [])
-  not-kept : Kept wild 0 0 (8 ∷ 9 ∷ []) 0 (8 ∷ 9 ∷ [])
+  kept : Gathered (i ∷ o ∷ v ∷ []) 1 (8 ∷ 9 ∷ []) (0 ∷ 9 ∷ [])
+  not-kept : Gathered (nan ∷ o ∷ o ∷ []) 0 (8 ∷ 9 ∷ []) (8 ∷ 9 ∷ [])
   gathered : Gathered wild 1 (8 ∷ 9 ∷ []) (1 ∷ 9 ∷ [])
   unreached : Found (o ∷ o ∷ o ∷ []) [] [] 0 → ⊥
   denied : Decides false ⊥
@@ -95,9 +93,8 @@ table =
       second-wrong = refl;
       ragged-cloud = refl;
       uneven-slots = refl;
-      cases = (refl, refl, refl, refl, refl);
-      kept = record { count = refl; list = refl };
-      not-kept = record { count = refl; list = refl };
+      kept = record { count = refl; front = refl; rest = refl };
+      not-kept = record { count = refl; front = refl; rest = refl };
       gathered = record { count = refl; front = refl; rest = refl };
       unreached = λ f. f refl;
       denied = λ x. x;

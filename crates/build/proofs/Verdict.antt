@@ -10,7 +10,7 @@ use lib.ListN.{length, get_or, drop}
 use lib.Seq.{get_or-drop}
 use lib.Ieee.{Float, nan, binary32, fits, to_bits, of_bits}
 use lib.Ieee.Bits.{of_bits-to_bits}
-use borrow.Author.Tests.{eq-eqb, ne_eqb, lt-ltb, le-ltb, eqb-true}
+use borrow.Author.Tests.{eq-eqb, le-ltb, eqb-true}
 use Rattle.space.specs.declared.Point3f.{Point3f}
 use Rattle.tree.specs.Slots.{Slot, point_at, slots}
 use Rattle.tree.specs.Part.{laid, lent}
@@ -19,10 +19,9 @@ use Rattle.tree.specs.Refuse.{gives, count, most_points}
 use Rattle.tree.proofs.Slots.{slots_length}
 use Rattle.tree.proofs.Cloud.{indexed-is, indexed-slot, indexed-has, tree_of-is, tree_of-length, lent_laid, lent-tree}
 use Rattle.tree.proofs.Descent.{Reached, all-reached, tree-reached}
-use Rattle.build.specs.declared.Checked.TheVariants as Says
 use Rattle.select.specs.Order.{slot_of}
-use Rattle.build.specs.Check.{Found}
-use Rattle.build.specs.Entries.{same_bits, same_slot, same_slots, checking, checked_of}
+use Rattle.build.specs.Check.{Decides, Found}
+use Rattle.build.specs.Entries.{same_bits, same_slot, same_slots, checking}
 
 -- ---- by bits
 
@@ -93,62 +92,50 @@ fit-slots coords (i ∷ indices) f s (Memᴰ.tail m) =
 fit-tree : (cloud : List Float) → AllFit cloud → (s : Slot) → Memᴰ s (laid (tree_of cloud)) → Fitting s.point
 fit-tree cloud f s m = subst Fitting (sym (tree_of-is cloud s m).point) (fit-point cloud s.index f)
 
--- ---- refusals
+-- ---- yes and no
 
-module _ (cloud coords : List Float) (indices : List ℕ) where
-  pub ragged-1 : (length cloud % 3 ≡ 0 → ⊥) → checked_of (Says.Refused 1) ≡ checking cloud coords indices
-  ragged-1 h = rw (ne_eqb (length cloud % 3) 0 h)
+module _ (cloud coords : List Float) (indices : List ℕ) (whole : length cloud % 3 ≡ 0) (even : length coords ≡ 3 * length indices)
+    (few : count cloud ≤ most_points) (room : length indices ≤ most_points)
+  where
+    says : (b : Bool) → same_slots (slots coords indices) (laid (tree_of cloud)) ≡ b → gives b ≡ checking cloud coords indices
+    says b e =
+        rw (eq-eqb (length cloud % 3) 0 whole, eq-eqb (length coords) (3 * length indices) even, le-ltb most_points (count cloud) few, le-ltb most_points (length indices) room)
+        (ap gives (sym e))
 
-  module _ (whole : length cloud % 3 ≡ 0) where
-    pub uneven-1 : (length coords ≡ 3 * length indices → ⊥) → checked_of (Says.Refused 1) ≡ checking cloud coords indices
-    uneven-1 h = rw (eq-eqb (length cloud % 3) 0 whole, ne_eqb (length coords) (3 * length indices) h)
+    tree-yes : length (indexed cloud) ≡ length indices → ((k : ℕ) → k < count cloud → Found cloud coords indices k)
+        → gives true ≡ checking cloud coords indices
+    unfolding Found
+    tree-yes e h =
+        says true (rw same (same-slots (laid (tree_of cloud))))
+      where
+        reached : (s : Slot) → Memᴰ s (indexed cloud) → Reached 0 s (lent coords indices)
+        reached s m =
+            let i = indexed-is cloud s m in
+            rw (indexed-slot cloud s m) (h s.index i.within (ap finite_point (sym i.point) ∙ i.finite))
 
-    module _ (even : length coords ≡ 3 * length indices) where
-      pub many-2 : most_points < count cloud → checked_of (Says.Refused 2) ≡ checking cloud coords indices
-      many-2 h =
-          rw (eq-eqb (length cloud % 3) 0 whole, eq-eqb (length coords) (3 * length indices) even, lt-ltb most_points (count cloud) h)
+        same : slots coords indices ≡ laid (tree_of cloud)
+        same = sym (lent_laid coords indices) ∙ ap laid (all-reached cloud coords indices few (sym e) reached)
 
-      module _ (few : count cloud ≤ most_points) where
-        pub many-2' : most_points < length indices → checked_of (Says.Refused 2) ≡ checking cloud coords indices
-        many-2' h =
-            rw (eq-eqb (length cloud % 3) 0 whole, eq-eqb (length coords) (3 * length indices) even, le-ltb most_points (count cloud) few, lt-ltb most_points (length indices) h)
+    module _ (f : AllFit cloud) (g : AllFit coords) where
+      -- what else would be the case
+      else-no : (slots coords indices ≡ laid (tree_of cloud) → ⊥) → gives false ≡ checking cloud coords indices
+      else-no h = says false (go (same_slots (slots coords indices) (laid (tree_of cloud))) refl)
+        where
+          go : (b : Bool) → same_slots (slots coords indices) (laid (tree_of cloud)) ≡ b → same_slots (slots coords indices) (laid (tree_of cloud)) ≡ false
+          go true q = absurd (h (slots_same (slots coords indices) (laid (tree_of cloud)) (fit-slots coords indices g) (fit-tree cloud f) q))
+          go false q = q
 
-        -- ---- yes and no
+      pub count_no : (length (indexed cloud) ≡ length indices → ⊥) → gives false ≡ checking cloud coords indices
+      count_no h = else-no (λ e. h (sym (tree_of-length cloud) ∙ ap length (sym e) ∙ slots_length coords indices))
 
-        module _ (room : length indices ≤ most_points) where
-          says : (b : Bool) → same_slots (slots coords indices) (laid (tree_of cloud)) ≡ b → gives b ≡ checking cloud coords indices
-          says b e =
-              rw (eq-eqb (length cloud % 3) 0 whole, eq-eqb (length coords) (3 * length indices) even, le-ltb most_points (count cloud) few, le-ltb most_points (length indices) room)
-              (ap gives (sym e))
+      found-no : (((k : ℕ) → k < count cloud → Found cloud coords indices k) → ⊥) → gives false ≡ checking cloud coords indices
+      unfolding Found
+      found-no h =
+          else-no
+          (λ e. h (λ k b fin. tree-reached cloud coords indices few (lent-tree cloud coords indices e) (slot_of cloud k) (indexed-has cloud k b fin)))
 
-          pub tree-yes : length (indexed cloud) ≡ length indices → ((k : ℕ) → k < count cloud → Found cloud coords indices k)
-              → checked_of Says.Yes ≡ checking cloud coords indices
-          unfolding Found
-          tree-yes e h =
-              says true (rw same (same-slots (laid (tree_of cloud))))
-            where
-              reached : (s : Slot) → Memᴰ s (indexed cloud) → Reached 0 s (lent coords indices)
-              reached s m =
-                  let i = indexed-is cloud s m in
-                  rw (indexed-slot cloud s m) (h s.index i.within (ap finite_point (sym i.point) ∙ i.finite))
-
-              same : slots coords indices ≡ laid (tree_of cloud)
-              same = sym (lent_laid coords indices) ∙ ap laid (all-reached cloud coords indices few (sym e) reached)
-
-          module _ (f : AllFit cloud) (g : AllFit coords) where
-            -- what else would be the case
-            else-no : (slots coords indices ≡ laid (tree_of cloud) → ⊥) → checked_of Says.No ≡ checking cloud coords indices
-            else-no h = says false (go (same_slots (slots coords indices) (laid (tree_of cloud))) refl)
-              where
-                go : (b : Bool) → same_slots (slots coords indices) (laid (tree_of cloud)) ≡ b → same_slots (slots coords indices) (laid (tree_of cloud)) ≡ false
-                go true q = absurd (h (slots_same (slots coords indices) (laid (tree_of cloud)) (fit-slots coords indices g) (fit-tree cloud f) q))
-                go false q = q
-
-            pub count_no : (length (indexed cloud) ≡ length indices → ⊥) → checked_of Says.No ≡ checking cloud coords indices
-            count_no h = else-no (λ e. h (sym (tree_of-length cloud) ∙ ap length (sym e) ∙ slots_length coords indices))
-
-            pub found-no : (((k : ℕ) → k < count cloud → Found cloud coords indices k) → ⊥) → checked_of Says.No ≡ checking cloud coords indices
-            unfolding Found
-            found-no h =
-                else-no
-                (λ e. h (λ k b fin. tree-reached cloud coords indices few (lent-tree cloud coords indices e) (slot_of cloud k) (indexed-has cloud k b fin)))
+      -- whether every indexed point is found
+      pub told : length (indexed cloud) ≡ length indices → (b : Bool) → Decides b ((k : ℕ) → k < count cloud → Found cloud coords indices k)
+          → gives b ≡ checking cloud coords indices
+      told e true h = tree-yes e h
+      told e false h = found-no h

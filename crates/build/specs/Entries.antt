@@ -1,15 +1,13 @@
 -- What the two entries answer and leave behind, for every input. Definitions only.
-use Rattle.std.specs.Prelude.{◌≡◌, Bool, true, false, ◌&&◌, ◌||◌, List, [], ◌∷◌, ℕ, ◌*◌, eqb, length, Float}
+use Rattle.std.specs.Prelude.{◌≡◌, Bool, true, false, ◌&&◌, ◌||◌, List, [], ◌∷◌, Result, ℕ, ◌*◌, eqb, length, Float}
 use Rattle.std.specs.Float.{binary32}
 use Rattle.std.specs.Float.Ieee.{to_bits}
 use Rattle.tree.specs.Slots.{Slot, slots, numbers_of, indices_of}
 use Rattle.tree.specs.Part.{laid}
 use Rattle.tree.specs.Cloud.{tree_of}
-use Rattle.tree.specs.Refuse.{Outcome, refused, gives, refuse, returned, left, count, uneven, ragged, too_many, short, overwrite}
-use Rattle.build.specs.declared.Built.{Built}
-use Rattle.build.specs.declared.Built.TheVariants.{Count, Refused}
-use Rattle.build.specs.declared.Checked.{Checked}
-use Rattle.build.specs.declared.Checked.TheVariants as Says
+use Rattle.tree.specs.Refuse.{Outcome, gives, refuse, returned, left, count, uneven, ragged, too_many, short, overwrite}
+use Rattle.tree.specs.Refusal.{outcome_of}
+use Rattle.tree.specs.declared.Refusal.{Refusal}
 
 -- what a build gives: m, and both lent lists afterwards
 pub record Written : Type 0 where
@@ -31,13 +29,8 @@ building cloud coords indices =
     (refuse 2 (too_many (count cloud))
     (refuse 3 (short coords (3 * count cloud) || short indices (count cloud)) (gives (written cloud coords indices))))
 
--- the paper's number and value for each case of the answer
-abbrev pub outcome_of : Built → Outcome ℕ
-outcome_of (Count m) = gives m
-outcome_of (Refused n) = refused n
-
 -- the whole outcome of `build`: its answer and every lent number
-pub record Builds (cloud cs : List Float) (is : List ℕ) (r : Built) (cs' : List Float) (is' : List ℕ) : Type 0 where
+pub record Builds (cloud cs : List Float) (is : List ℕ) (r : Result ℕ Refusal) (cs' : List Float) (is' : List ℕ) : Type 0 where
   pub answer : outcome_of r ≡ returned (λ w. w.slots) (building cloud cs is)
   pub coords : cs' ≡ left (λ w. w.coords) cs (building cloud cs is)
   pub indices : is' ≡ left (λ w. w.indices) is (building cloud cs is)
@@ -61,8 +54,3 @@ abbrev pub checking : List Float → List Float → List ℕ → Outcome Bool
 checking cloud coords indices =
     refuse 1 (ragged cloud || uneven coords indices)
     (refuse 2 (too_many (count cloud) || too_many (length indices)) (gives (same_slots (slots coords indices) (laid (tree_of cloud)))))
-
-abbrev pub checked_of : Checked → Outcome Bool
-checked_of Says.Yes = gives true
-checked_of Says.No = gives false
-checked_of (Says.Refused n) = refused n

@@ -1,154 +1,106 @@
 // The tree build: the points' indices are brought into order in place, then the coordinates are written beside them.
 #![tactic(auto)]
 
-ghost use Rattle.std.specs.Prelude.{◌≡◌, ℕ, ◌+◌, ◌*◌, ◌/◌, ◌≤◌, ◌<◌, length, take, set};
-ghost use Rattle.tree.specs.Slots.{point_at, numbers_of};
+ghost use Rattle.std.specs.Prelude.{◌≡◌, ℕ, ◌+◌, ◌*◌, ◌≤◌, ◌<◌, length, set};
+ghost use Rattle.tree.specs.Slots.{numbers_of};
 ghost use Rattle.tree.specs.Part.{laid};
 ghost use Rattle.tree.specs.Grow.{grow};
-ghost use Rattle.tree.specs.Refuse.{overwrite};
+ghost use Rattle.tree.specs.Refuse.{count, overwrite};
+ghost use Rattle.tree.specs.Refusal.{outcome_of};
 ghost use Rattle.select.specs.Order.{slots_of, Inside};
-ghost use Rattle.build.specs.Gather.{Kept, Gathered};
-ghost use Rattle.build.specs.Entries.{Builds, checking, checked_of};
+ghost use Rattle.build.specs.Gather.{Gathered};
+ghost use Rattle.build.specs.Entries.{Builds, checking};
 
 mod check;
 
 use check::{all_found, count_indexed, is_indexed};
-use select::median::{select, swap};
-use select::rank::next_axis;
-use tree::KdTree;
-
-// How many slots were built, or the number of the refusal.
-#[derive(Clone, Copy)]
-pub enum Built {
-    Count(usize),
-    Refused(u32),
-}
-
-// Whether the lent slots are the tree, or the number of the refusal.
-#[derive(Clone, Copy)]
-pub enum Checked {
-    Yes,
-    No,
-    Refused(u32),
-}
+use select::median::select;
+use select::rank::{Ranking, next_axis};
+use space::Point3f;
+use tree::{KdTree, PointCloud, Refusal};
 
 // Builds a group: the median goes to the front, the lower ranks and the higher ranks are built one level deeper.
-fn build_group(cloud: &[f32], indices: &mut [u32], axis: usize)
-    requires { (axis < 3) × Inside cloud.now indices.old }
-    ensures { (f : ℕ) → length indices.old ≤ f → slots_of cloud.now indices.new ≡ laid (grow f axis (slots_of cloud.now indices.old)) }
+fn build_group(by: &Ranking, indices: &mut [u32])
+    requires { Inside by.now.cloud.now indices.old }
+    ensures { (f : ℕ) → length indices.old ≤ f → slots_of by.now.cloud.now indices.new ≡ laid (grow f by.now.axis (slots_of by.now.cloud.now indices.old)) }
 {
     let n = indices.len();
     if n < 2 {
         return;
     }
     let median = (n - 1) / 2;
-    select(cloud, indices, axis, median);
-    swap(indices, 0, median);
+    select(by, indices, median);
+    indices.swap(0, median);
     let b = median + 1;
-    let deeper = next_axis(axis);
-    build_group(cloud, &mut indices[1..b], deeper);
-    build_group(cloud, &mut indices[b..], deeper);
-}
-
-// Point i is the next that is kept, if it is finite; m are kept before it.
-fn keep(cloud: &[f32], indices: &mut [u32], i: usize, m: usize) -> usize
-    requires { (3 * i + 2 < length cloud.now) × (i < 1048576) × (m < length indices.old) }
-    ensures { Kept cloud.now i m indices.old result indices.new }
-{
-    if is_indexed(cloud, i) {
-        indices[m] = i as u32;
-        return m + 1;
-    }
-    m
+    let deeper = Ranking {
+        cloud: by.cloud,
+        axis: next_axis(by.axis),
+    };
+    build_group(&deeper, &mut indices[1..b]);
+    build_group(&deeper, &mut indices[b..]);
 }
 
 // The indices of the finite points go to the front, in order.
-fn gather(cloud: &[f32], indices: &mut [u32], n: usize) -> usize
-    requires { (length cloud.now ≡ 3 * n) × (n ≤ 1048576) × (n ≤ length indices.old) }
+fn gather(cloud: &PointCloud, indices: &mut [u32]) -> usize
+    requires { count cloud.now ≤ length indices.old }
     ensures { Gathered cloud.now result indices.old indices.new }
 {
     let mut m = 0;
-    let mut i = 0;
-    while i < n {
-        m = keep(cloud, indices, i, m);
-        i += 1;
+    for i in 0..cloud.len() {
+        if is_indexed(cloud, i) {
+            indices[m] = i as u32;
+            m += 1;
+        }
     }
     m
 }
 
-// Writes the three numbers of point j to slot i.
-fn put(cloud: &[f32], coords: &mut [f32], i: usize, j: u32)
-    requires { (3 * j + 2 < length cloud.now) × (3 * i + 2 < length coords.old) }
-    ensures { coords.new ≡ set (set (set coords.old (3 * i) (point_at cloud.now j).x) (3 * i + 1) (point_at cloud.now j).y) (3 * i + 2) (point_at cloud.now j).z }
+// Writes the three numbers of a point to slot i.
+fn put(coords: &mut [f32], i: usize, p: Point3f)
+    requires { 3 * i + 2 < length coords.old }
+    ensures { coords.new ≡ set (set (set coords.old (3 * i) p.x) (3 * i + 1) p.y) (3 * i + 2) p.z }
 {
-    let from = 3 * (j as usize);
     let to = 3 * i;
-    coords[to] = cloud[from];
-    coords[to + 1] = cloud[from + 1];
-    coords[to + 2] = cloud[from + 2];
+    coords[to] = p.x;
+    coords[to + 1] = p.y;
+    coords[to + 2] = p.z;
 }
 
-// Writes the numbers of the first m points beside their indices.
-fn lay(cloud: &[f32], coords: &mut [f32], indices: &[u32], m: usize)
-    requires { (m ≤ length indices.now) × (3 * m ≤ length coords.old) × Inside cloud.now (take m indices.now) }
-    ensures { coords.new ≡ overwrite (numbers_of (slots_of cloud.now (take m indices.now))) coords.old }
+// Writes the numbers of points beside their indices.
+fn lay(cloud: &PointCloud, coords: &mut [f32], indices: &[u32])
+    requires { (3 * length indices.now ≤ length coords.old) × Inside cloud.now indices.now }
+    ensures { coords.new ≡ overwrite (numbers_of (slots_of cloud.now indices.now)) coords.old }
 {
-    let mut i = 0;
-    while i < m {
-        put(cloud, coords, i, indices[i]);
-        i += 1;
+    for (i, &j) in indices.iter().enumerate() {
+        put(coords, i, cloud.point(j as usize));
     }
 }
 
-// Builds the tree of a cloud: three coordinates and one index to a slot.
-pub fn build(cloud: &[f32], coords: &mut [f32], indices: &mut [u32]) -> Built
+// Builds the tree of a cloud, three coordinates and one index to a slot, and tells how many slots it has.
+pub fn build(cloud: &[f32], coords: &mut [f32], indices: &mut [u32]) -> Result<usize, Refusal>
     ensures { Builds cloud.now coords.old indices.old result coords.new indices.new }
 {
-    let len = cloud.len();
-    if len % 3 != 0 {
-        return Built::Refused(1);
+    let points = PointCloud::of(cloud)?;
+    let n = points.len();
+    if coords.len() < 3 * n || indices.len() < n {
+        return Err(Refusal::ShortOutput);
     }
-    let n = len / 3;
-    if KdTree::MAX_POINTS < n {
-        return Built::Refused(2);
-    }
-    if coords.len() < 3 * n {
-        return Built::Refused(3);
-    }
-    if indices.len() < n {
-        return Built::Refused(3);
-    }
-    let m = gather(cloud, indices, n);
-    build_group(cloud, &mut indices[..m], 0);
-    lay(cloud, coords, indices, m);
-    Built::Count(m)
+    let m = gather(&points, indices);
+    build_group(&Ranking { cloud, axis: 0 }, &mut indices[..m]);
+    lay(&points, coords, &indices[..m]);
+    Ok(m)
 }
 
 // Whether the lent slots are the tree of the cloud. Each indexed point is looked for from the root down, by its ranks; as many slots as
 // there are of them leave no room for others.
-pub fn is_tree_of(cloud: &[f32], coords: &[f32], indices: &[u32]) -> Checked
-    ensures { checked_of result ≡ checking cloud.now coords.now indices.now }
+pub fn is_tree_of(cloud: &[f32], coords: &[f32], indices: &[u32]) -> Result<bool, Refusal>
+    ensures { outcome_of result ≡ checking cloud.now coords.now indices.now }
 {
-    let len = cloud.len();
-    if len % 3 != 0 {
-        return Checked::Refused(1);
-    }
+    // A length that does not fit is told before one that is too large.
     if coords.len() != 3 * indices.len() {
-        return Checked::Refused(1);
+        return Err(Refusal::UnfitLengths);
     }
-    let n = len / 3;
-    if KdTree::MAX_POINTS < n {
-        return Checked::Refused(2);
-    }
-    if KdTree::MAX_POINTS < indices.len() {
-        return Checked::Refused(2);
-    }
-    if count_indexed(cloud, n) != indices.len() {
-        return Checked::No;
-    }
-    if all_found(cloud, coords, indices, n) {
-        Checked::Yes
-    } else {
-        Checked::No
-    }
+    let cloud = PointCloud::of(cloud)?;
+    let tree = KdTree::of(coords, indices)?;
+    Ok(count_indexed(&cloud) == indices.len() && all_found(&cloud, &tree))
 }

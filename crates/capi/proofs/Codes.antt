@@ -1,4 +1,5 @@
 -- A code tells: no entry refuses with 0, so that 0 means success alone. And the room for sums is tested where the order of the refusals puts it.
+use Rattle.std.proofs.Common.{Option}
 use Prim.Native.Nat.{ℕ, suc, ◌*◌, ◌<◌, min}
 use native.Mathlib.Omega.{arith}
 use mathlib.Core.Path.{◌≡◌, refl}
@@ -14,7 +15,6 @@ use Rattle.search.specs.declared.Nearest.{Nearest}
 use Rattle.search.specs.Search.{bounded}
 use Rattle.lists.specs.Entries.{nearest_listing}
 use Rattle.radius.specs.Entries.{radius_listing}
-use Rattle.matching.specs.declared.Limit.{Limit}
 use Rattle.matching.specs.Pairs.{pairs, pairs_in}
 use Rattle.matching.specs.Refusals.{one, two, four, five}
 use Rattle.matching.specs.Matching.{match_in}
@@ -64,7 +64,7 @@ pub radius-tells : (cs : List Float) (is : List ℕ) (q : Point3f) (r : Float) (
 unfolding radius_listing
 radius-tells cs is q r os ds = tree-lines cs is (line 2 (short os (length is) || short ds (length is)) (given _))
 
-pub match-tells : (S T C : List Float) (I : List ℕ) (l : Limit) (M : List ℕ) → Tells (match_in S T C I l M)
+pub match-tells : (S T C : List Float) (I : List ℕ) (l : Option Float) (M : List ℕ) → Tells (match_in S T C I l M)
 unfolding match_in
 match-tells S T C I l M = line 0 (one S T C I M) (line 1 (two S T C I M) (line 3 (four S T C I M) (line 4 (five S T C I M) (given _))))
 

@@ -9,8 +9,7 @@ use Rattle.tree.specs.Refuse.{overwrite}
 use Rattle.tree.proofs.Overwrite.{over-one}
 use Rattle.sums.specs.declared.Vector3d.{Vector3d}
 use Rattle.sums.specs.declared.CorrespondenceStats.{CorrespondenceStats}
-use Rattle.frame.specs.declared.CloudScale.{CloudScale}
-use Rattle.capi.specs.Answers.{vector_numbers, point_numbers, scale_numbers, sum_numbers}
+use Rattle.capi.specs.Answers.{vector_numbers, sum_numbers}
 
 -- one number more at n, where the numbers N end
 pub one_more : {A : Type 0} (N S : List A) (n : ℕ) (x : A) → length N ≡ n → n < length S → set (overwrite N S) n x ≡ overwrite (N ++ (x ∷ [])) S
@@ -38,12 +37,6 @@ vector-more : (N S : List Float) (n : ℕ) (v : Vector3d) {T U : List Float} →
 vector-more N S n v ends h t u = u ∙ ap (λ (l : List Float). vector_at l n v) t ∙ three-more N S n v.x v.y v.z ends h
 
 -- ---- at the front of a lent list
-
-pub vector-put : (v : Vector3d) (S : List Float) {T : List Float} → 3 ≤ length S → T ≡ vector_at S 0 v → T ≡ overwrite (vector_numbers v) S
-vector-put v S room e = vector-more [] S 0 v refl (omega arith) refl e
-
-pub scale-put : (s : CloudScale) (S : List Float) {T : List Float} → 4 ≤ length S → T ≡ overwrite (point_numbers s.centroid) S → set T 3 s.radius ≡ overwrite (scale_numbers s) S
-scale-put s S room e = ap (λ (l : List Float). set l 3 s.radius) e ∙ one_more (point_numbers s.centroid) S 3 s.radius refl (omega arith)
 
 -- the sixteen sums
 pub sums-put : (s : CorrespondenceStats) (S : List Float) {T1 T2 T3 T4 T5 : List Float} → 16 ≤ length S

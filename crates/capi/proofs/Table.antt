@@ -2,7 +2,7 @@
 use mathlib.Core.Path.{◌≡◌, refl}
 use mathlib.Core.Bool.{true, false}
 use mathlib.Core.List.{List, [], ◌∷◌}
-use mathlib.Core.Option.{Option, none, some}
+use Rattle.std.proofs.Common.{Option, None, Some}
 use Prim.Native.Nat.{ℕ}
 use lib.IntN.{pos}
 use lib.Ieee.{Float, fin}
@@ -11,7 +11,6 @@ use Rattle.tree.specs.Refuse.{Outcome, refused, gives}
 use Rattle.build.specs.Entries as Build
 use Rattle.search.specs.declared.Nearest.TheVariants.{Found, Nothing}
 use Rattle.lists.specs.Entry.{Entry, indices_in, squares_in}
-use Rattle.matching.specs.declared.Limit.TheVariants.{Unlimited, At}
 use Rattle.matching.specs.Pairs as Pairs
 use Rattle.sums.specs.declared.Vector3d.{Vector3d}
 use Rattle.sums.specs.declared.CorrespondenceStats.{CorrespondenceStats}
@@ -47,7 +46,7 @@ abbrev point : Point3f
 point = record { x = n 1; y = n 2; z = n 3 }
 
 abbrev framed : Outcome (Option LocalFrame)
-framed = gives (some (frame_at (n 1) (n 2) (n 3)))
+framed = gives (Some (frame_at (n 1) (n 2) (n 3)))
 
 abbrev built : Outcome Build.Written
 built = gives (record { slots = 1; coords = n 1 ∷ n 2 ∷ n 3 ∷ []; indices = 5 ∷ [] })
@@ -67,7 +66,7 @@ record Table : Type 0 where
   -- arguments taken together
   points : point_of (n 1) (n 2) (n 3) ≡ point
   seeds : (seed_of 0 5 (n 1) ≡ Nothing) × (seed_of 1 5 (n 1) ≡ Found 5 (n 1)) × (seed_of 2 5 (n 1) ≡ Found 5 (n 1))
-  limits : (limit_of 0 (n 1) ≡ Unlimited) × (limit_of 1 (n 1) ≡ At (n 1)) × (limit_of 2 (n 1) ≡ At (n 1))
+  limits : (limit_of 0 (n 1) ≡ None) × (limit_of 1 (n 1) ≡ Some (n 1)) × (limit_of 2 (n 1) ≡ Some (n 1))
   for-mse : ((sums_of 7 (n 16)).count ≡ 7) × ((sums_of 7 (n 16)).sum_sq_error ≡ n 16)
   origin : (frame_at (n 1) (n 2) (n 3)).origin ≡ vector 1 2 3
   -- answers taken apart
@@ -95,7 +94,7 @@ record Table : Type 0 where
   writes : Writes point_numbers (gives point) 0 (n 9 ∷ n 9 ∷ n 9 ∷ n 9 ∷ []) (n 1 ∷ n 2 ∷ n 3 ∷ n 9 ∷ [])
   writes-not : Writes point_numbers (refused 3) 3 (n 9 ∷ []) (n 9 ∷ [])
   frames : Frames framed 0 (n 9 ∷ n 9 ∷ n 9 ∷ n 9 ∷ []) 8 (n 1 ∷ n 2 ∷ n 3 ∷ n 9 ∷ []) 1
-  frames-none : Frames (gives none) 0 (n 9 ∷ n 9 ∷ n 9 ∷ []) 8 (n 9 ∷ n 9 ∷ n 9 ∷ []) 0
+  frames-none : Frames (gives None) 0 (n 9 ∷ n 9 ∷ n 9 ∷ []) 8 (n 9 ∷ n 9 ∷ n 9 ∷ []) 0
   frames-not : Frames (refused 1) 1 (n 9 ∷ []) 8 (n 9 ∷ []) 8
 
 table : Table

@@ -1,6 +1,5 @@
 -- Answers of the entries, taken apart for the C interface. Definitions only.
-use Rattle.std.specs.Prelude.{ℕ, ◌*◌, Bool, cond, List, [], ◌∷◌, length, Float}
-use Rattle.std.proofs.Math.Option.{Option, none, some}
+use Rattle.std.specs.Prelude.{ℕ, ◌*◌, Bool, cond, Option, None, Some, List, [], ◌∷◌, length, Float}
 use Rattle.space.specs.declared.Point3f.{Point3f}
 use Rattle.tree.specs.Refuse.{overwrite}
 use Rattle.search.specs.declared.Nearest.{Nearest}
@@ -59,9 +58,9 @@ sum_numbers s =
 -- ---- a frame, or none: the flag; the origin, which keeps its values where there is none
 
 abbrev pub is_far : Option LocalFrame → ℕ
-is_far (some f) = 1
-is_far none = 0
+is_far (Some f) = 1
+is_far None = 0
 
 abbrev pub origin_in : List Float → Option LocalFrame → List Float
-origin_in old (some f) = overwrite (vector_numbers f.origin) old
-origin_in old none = old
+origin_in old (Some f) = overwrite (vector_numbers f.origin) old
+origin_in old None = old

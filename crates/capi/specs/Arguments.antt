@@ -1,10 +1,8 @@
 -- Arguments of the C interface, taken together. Definitions only.
-use Rattle.std.specs.Prelude.{ℕ, cond, eqb, Float}
+use Rattle.std.specs.Prelude.{ℕ, cond, eqb, Float, None, Option, Some}
 use Rattle.space.specs.declared.Point3f.{Point3f}
 use Rattle.search.specs.declared.Nearest.{Nearest}
 use Rattle.search.specs.declared.Nearest.TheVariants.{Found, Nothing}
-use Rattle.matching.specs.declared.Limit.{Limit}
-use Rattle.matching.specs.declared.Limit.TheVariants.{Unlimited, At}
 use Rattle.sums.specs.declared.CorrespondenceStats.{CorrespondenceStats}
 use Rattle.sums.specs.Vector.{zero_vector}
 use Rattle.frame.specs.declared.LocalFrame.{LocalFrame}
@@ -17,8 +15,8 @@ abbrev pub seed_of : ℕ → ℕ → Float → Nearest
 seed_of seeded i d = cond (eqb seeded 0) Nothing (Found i d)
 
 -- a limit, unless the flag is 0
-abbrev pub limit_of : ℕ → Float → Limit
-limit_of limited d = cond (eqb limited 0) Unlimited (At d)
+abbrev pub limit_of : ℕ → Float → Option Float
+limit_of limited d = cond (eqb limited 0) None (Some d)
 
 -- sums of which only what enters the MSE is given
 abbrev pub sums_of : ℕ → Float → CorrespondenceStats

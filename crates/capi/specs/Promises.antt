@@ -1,6 +1,5 @@
 -- What each function promises of its code and of every lent place afterwards, where its rule comes to the outcome o: on a refusal each is as it was. Definitions only.
-use Rattle.std.specs.Prelude.{ℕ, ◌≡◌, Bool, List, length, Float}
-use Rattle.std.proofs.Math.Option.{Option}
+use Rattle.std.specs.Prelude.{ℕ, ◌≡◌, Bool, Option, List, length, Float}
 use Rattle.tree.specs.Refuse.{Outcome, left, overwrite}
 use Rattle.build.specs.Entries as Build
 use Rattle.search.specs.declared.Nearest.{Nearest}

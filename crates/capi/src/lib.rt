@@ -2,14 +2,15 @@
 // The crate capi_c exports them to C, each under its own name.
 #![tactic(auto)]
 
-ghost use Rattle.std.specs.Prelude.{◌≡◌, cond, ◌&&◌, ◌+◌, ◌≤◌, ◌<◌, eqb, length, set};
+ghost use Rattle.std.specs.Prelude.{◌≡◌, false, ◌+◌, ◌≤◌, ◌<◌, length, set, OnOk};
 ghost use Rattle.std.specs.Float.{binary32, binary64};
 ghost use Rattle.bits.specs.Finite.{finite};
 ghost use Rattle.bits.specs.NextUp.{next_up};
 ghost use Rattle.bits.specs.Convert as Convert;
 ghost use Rattle.bits.specs.Key as Key;
 ghost use Rattle.bits.specs.Root.{root};
-ghost use Rattle.tree.specs.Refuse.{short, gives, overwrite};
+ghost use Rattle.tree.specs.Refuse.{short, gives, left, overwrite};
+ghost use Rattle.tree.specs.Refusal.{outcome_of};
 ghost use Rattle.build.specs.Entries.{building, checking};
 ghost use Rattle.search.specs.Search as Search;
 ghost use Rattle.lists.specs.Entry.{squares_in, roots_in};
@@ -27,15 +28,13 @@ ghost use Rattle.capi.specs.Arguments.{point_of, seed_of, limit_of, sums_of, fra
 ghost use Rattle.capi.specs.Answers.{flag_of, start_of, vector_numbers, point_numbers, scale_numbers, sum_numbers};
 ghost use Rattle.capi.specs.Promises as Promise;
 
-use build::{Built, Checked};
-use frame::{Centred, CloudScale, Framed, LocalFrame, Scaled};
-use lists::Listed;
-use matching::{Limit, Matched, Paired};
-use search::{Nearest, Searched};
+use frame::{CloudScale, LocalFrame};
+use search::Nearest;
 use space::Point3f;
-use sums::{Collected, CorrespondenceStats, Vector3d};
+use sums::{CorrespondenceStats, Vector3d};
+use tree::Refusal;
 
-// ---- arguments taken together
+// ---- arguments taken together: C has no enum that holds a value, so a flag of 0 says that there is no seed or no limit
 
 fn seed_of(seeded: u32, index: u32, distance_sq: f32) -> Nearest
     ensures { result ≡ seed_of seeded index distance_sq }
@@ -47,36 +46,60 @@ fn seed_of(seeded: u32, index: u32, distance_sq: f32) -> Nearest
     }
 }
 
-fn limit_of(limited: u32, limit: f32) -> Limit
+fn limit_of(limited: u32, limit: f32) -> Option<f32>
     ensures { result ≡ limit_of limited limit }
 {
-    if limited == 0 {
-        Limit::Unlimited
-    } else {
-        Limit::At(limit)
+    if limited == 0 { None } else { Some(limit) }
+}
+
+// ---- answers taken apart: C gets a number, 0 or that of a refusal, and the answer itself in lent places
+
+fn tell_nearest(
+    answer: Result<Nearest, Refusal>,
+    found: &mut u32,
+    index: &mut u32,
+    distance_sq: &mut f32,
+) -> u32
+    ensures { Promise.Finds (outcome_of answer) result found.old index.old distance_sq.old found.new index.new distance_sq.new }
+{
+    match answer {
+        Ok(Nearest::Nothing) => {
+            *found = 0;
+            0
+        }
+        Ok(Nearest::Found(i, d)) => {
+            *found = 1;
+            *index = i;
+            *distance_sq = d;
+            0
+        }
+        Err(refusal) => refusal.number(),
     }
 }
 
-// ---- answers taken apart
-
-fn tell_nearest(answer: Searched, found: &mut u32, index: &mut u32, distance_sq: &mut f32) -> u32
-    ensures { Promise.Finds (Search.outcome_of answer) result found.old index.old distance_sq.old found.new index.new distance_sq.new }
+// A number that an entry tells, left in its place. Build and the pair list, whose counts are of usize, have arms of their own: a cast
+// under `map` would have to be proved for every count.
+fn tell(answer: Result<u32, Refusal>, place: &mut u32) -> u32
+    ensures told { result ≡ code (outcome_of answer) }
+    ensures number { place.new ≡ left (λ n. n) place.old (outcome_of answer) }
 {
     match answer {
-        Searched::Refused(number) => number,
-        Searched::Answer(nearest) => {
-            match nearest {
-                Nearest::Nothing => {
-                    *found = 0;
-                }
-                Nearest::Found(i, d) => {
-                    *found = 1;
-                    *index = i;
-                    *distance_sq = d;
-                }
-            }
+        Ok(n) => {
+            *place = n;
             0
         }
+        Err(refusal) => refusal.number(),
+    }
+}
+
+// Refusal 3 in place of the answer, or of refusal 5, where a lent output is too short.
+fn in_room<T: Copy>(answer: Result<T, Refusal>, lacking: bool) -> Result<T, Refusal>
+    ensures rule { outcome_of result ≡ in_room lacking (outcome_of answer) }
+    ensures room { OnOk result (lacking ≡ false) }
+{
+    match answer {
+        Ok(_) | Err(Refusal::OutsideIndex) if lacking => Err(Refusal::ShortOutput),
+        _ => answer,
     }
 }
 
@@ -91,11 +114,11 @@ pub fn ongdhuse_build(
     ensures { Promise.Builds (building cloud.now coords.old indices.old) result coords.old indices.old slots.old coords.new indices.new slots.new }
 {
     match build::build(cloud, coords, indices) {
-        Built::Refused(number) => number,
-        Built::Count(m) => {
+        Ok(m) => {
             *slots = m as u32;
             0
         }
+        Err(refusal) => refusal.number(),
     }
 }
 
@@ -103,15 +126,11 @@ pub fn ongdhuse_is_tree_of(cloud: &[f32], coords: &[f32], indices: &[u32], yes: 
     ensures { Promise.Checks (checking cloud.now coords.now indices.now) result yes.old yes.new }
 {
     match build::is_tree_of(cloud, coords, indices) {
-        Checked::Refused(number) => number,
-        Checked::No => {
-            *yes = 0;
+        Ok(answer) => {
+            *yes = u32::from(answer);
             0
         }
-        Checked::Yes => {
-            *yes = 1;
-            0
-        }
+        Err(refusal) => refusal.number(),
     }
 }
 
@@ -170,20 +189,15 @@ pub fn ongdhuse_find_k_nearest_into(
     ensures { Promise.Lists squares_in (nearest_listing coords.now indices.now (point_of x y z) k out_indices.old out_distances.old) result out_indices.old out_distances.old count.old out_indices.new out_distances.new count.new }
 {
     let query = Point3f { x, y, z };
-    match lists::find_k_nearest_into(
+    let answer = lists::find_k_nearest_into(
         coords,
         indices,
         query,
         k as usize,
         out_indices,
         out_distances,
-    ) {
-        Listed::Refused(number) => number,
-        Listed::Count(n) => {
-            *count = n;
-            0
-        }
-    }
+    );
+    tell(answer, count)
 }
 
 pub fn ongdhuse_find_k_nearest(
@@ -200,20 +214,15 @@ pub fn ongdhuse_find_k_nearest(
     ensures { Promise.Lists roots_in (nearest_listing coords.now indices.now (point_of x y z) k out_indices.old out_distances.old) result out_indices.old out_distances.old count.old out_indices.new out_distances.new count.new }
 {
     let query = Point3f { x, y, z };
-    match lists::find_k_nearest(
+    let answer = lists::find_k_nearest(
         coords,
         indices,
         query,
         k as usize,
         out_indices,
         out_distances,
-    ) {
-        Listed::Refused(number) => number,
-        Listed::Count(n) => {
-            *count = n;
-            0
-        }
-    }
+    );
+    tell(answer, count)
 }
 
 pub fn ongdhuse_find_radius_neighbors(
@@ -230,20 +239,15 @@ pub fn ongdhuse_find_radius_neighbors(
     ensures { Promise.Lists roots_in (radius_listing coords.now indices.now (point_of x y z) radius out_indices.old out_distances.old) result out_indices.old out_distances.old count.old out_indices.new out_distances.new count.new }
 {
     let query = Point3f { x, y, z };
-    match radius::find_radius_neighbors(
+    let answer = radius::find_radius_neighbors(
         coords,
         indices,
         query,
         radius,
         out_indices,
         out_distances,
-    ) {
-        Listed::Refused(number) => number,
-        Listed::Count(n) => {
-            *count = n;
-            0
-        }
-    }
+    );
+    tell(answer, count)
 }
 
 // ---- matching
@@ -266,10 +270,13 @@ pub fn ongdhuse_find_correspondences_seeded(
     ensures { Promise.Matches (match_in source.now target.now coords.now indices.now (limit_of limited limit) matches.old) result matches.old matches.new }
 {
     let within = limit_of(limited, limit);
-    match matching::find_correspondences_seeded(source, target, coords, indices, within, matches) {
-        Matched::Refused(number) => number,
-        Matched::Done => 0,
+    let answer = matching::find_correspondences_seeded(
+        source, target, coords, indices, within, matches,
+    );
+    if let Err(refusal) = answer {
+        return refusal.number();
     }
+    0
 }
 
 pub fn ongdhuse_correspondence_pairs(
@@ -281,11 +288,11 @@ pub fn ongdhuse_correspondence_pairs(
     ensures { Promise.ListsPairs (pairs_in matches.now sources.old targets.old) result sources.old targets.old count.old sources.new targets.new count.new }
 {
     match matching::correspondence_pairs(matches, sources, targets) {
-        Paired::Refused(number) => number,
-        Paired::Wrote(n) => {
+        Ok(n) => {
             *count = n as u32;
             0
         }
+        Err(refusal) => refusal.number(),
     }
 }
 
@@ -300,18 +307,6 @@ pub fn ongdhuse_target_point(cloud: &[f32], index: u32) -> usize
 }
 
 // ---- sums
-
-// The number of a refusal, or 3 in place of 5 where a lent output is too short.
-fn in_order(number: u32, lacking: bool) -> u32
-    ensures { result ≡ cond (eqb number 5 && lacking) 3 number }
-{
-    if number == 5 {
-        if lacking {
-            return 3;
-        }
-    }
-    number
-}
 
 // Writes the three numbers of a vector from a place on.
 fn put_vector(out: &mut [f64], at: usize, v: Vector3d)
@@ -335,16 +330,23 @@ fn put_sums(out: &mut [f64], s: CorrespondenceStats)
     out[15] = s.sum_sq_error;
 }
 
+fn tell_sums(answer: Result<CorrespondenceStats, Refusal>, sums: &mut [f64], count: &mut u32) -> u32
+    ensures { Promise.Sums (in_room (short sums.old 16) (outcome_of answer)) result sums.old count.old sums.new count.new }
+{
+    match in_room(answer, sums.len() < 16) {
+        Ok(s) => {
+            put_sums(sums, s);
+            *count = s.count;
+            0
+        }
+        Err(refusal) => refusal.number(),
+    }
+}
+
 pub fn ongdhuse_zero_sums(sums: &mut [f64], count: &mut u32) -> u32
     ensures { Promise.Sums (in_room (short sums.old 16) (gives Stats.zero_sums)) result sums.old count.old sums.new count.new }
 {
-    if sums.len() < 16 {
-        return 3;
-    }
-    let s = CorrespondenceStats::zero();
-    put_sums(sums, s);
-    *count = s.count;
-    0
+    tell_sums(Ok(CorrespondenceStats::zero()), sums, count)
 }
 
 pub fn ongdhuse_collect(
@@ -356,17 +358,11 @@ pub fn ongdhuse_collect(
 ) -> u32
     ensures { Promise.Sums (in_room (short sums.old 16) (sums_in source.now target.now matches.now)) result sums.old count.old sums.new count.new }
 {
-    match CorrespondenceStats::collect(source, target, matches) {
-        Collected::Refused(number) => in_order(number, sums.len() < 16),
-        Collected::Sums(s) => {
-            if sums.len() < 16 {
-                return 3;
-            }
-            put_sums(sums, s);
-            *count = s.count;
-            0
-        }
-    }
+    tell_sums(
+        CorrespondenceStats::collect(source, target, matches),
+        sums,
+        count,
+    )
 }
 
 pub fn ongdhuse_mse(count: u32, sum_sq_error: f64) -> f32
@@ -399,54 +395,42 @@ fn put_point(out: &mut [f32], p: Point3f)
 pub fn ongdhuse_cloud_scale(cloud: &[f32], scale: &mut [f32]) -> u32
     ensures { Promise.Writes scale_numbers (in_room (short scale.old 4) (scale_in cloud.now)) result scale.old scale.new }
 {
-    match CloudScale::of(cloud) {
-        Scaled::Refused(number) => in_order(number, scale.len() < 4),
-        Scaled::Scale(s) => {
-            if scale.len() < 4 {
-                return 3;
-            }
+    match in_room(CloudScale::of(cloud), scale.len() < 4) {
+        Ok(s) => {
             put_point(scale, s.centroid);
             scale[3] = s.radius;
             0
         }
+        Err(refusal) => refusal.number(),
     }
 }
 
 pub fn ongdhuse_centred_on(cloud: &[f32], origin: &mut [f64]) -> u32
     ensures { Promise.Writes (λ f. vector_numbers f.origin) (in_room (short origin.old 3) (centred_in cloud.now)) result origin.old origin.new }
 {
-    match LocalFrame::centred_on(cloud) {
-        Centred::Refused(number) => in_order(number, origin.len() < 3),
-        Centred::Frame(f) => {
-            if origin.len() < 3 {
-                return 3;
-            }
+    match in_room(LocalFrame::centred_on(cloud), origin.len() < 3) {
+        Ok(f) => {
             put_vector(origin, 0, f.origin);
             0
         }
+        Err(refusal) => refusal.number(),
     }
 }
 
 pub fn ongdhuse_if_far_from_origin(cloud: &[f32], origin: &mut [f64], is_far: &mut u32) -> u32
     ensures { Promise.Frames (in_room (short origin.old 3) (frame_in cloud.now)) result origin.old is_far.old origin.new is_far.new }
 {
-    match LocalFrame::if_far_from_origin(cloud) {
-        Framed::Refused(number) => in_order(number, origin.len() < 3),
-        Framed::NoFrame => {
-            if origin.len() < 3 {
-                return 3;
-            }
+    match in_room(LocalFrame::if_far_from_origin(cloud), origin.len() < 3) {
+        Ok(None) => {
             *is_far = 0;
             0
         }
-        Framed::Frame(f) => {
-            if origin.len() < 3 {
-                return 3;
-            }
+        Ok(Some(f)) => {
             put_vector(origin, 0, f.origin);
             *is_far = 1;
             0
         }
+        Err(refusal) => refusal.number(),
     }
 }
 
@@ -462,7 +446,7 @@ pub fn ongdhuse_point_to_local(
     ensures { Promise.Writes point_numbers (in_room (short local.old 3) (gives (local_point (frame_at origin_x origin_y origin_z) (point_of x y z)))) result local.old local.new }
 {
     if local.len() < 3 {
-        return 3;
+        return Refusal::ShortOutput.number();
     }
     let origin = Vector3d {
         x: origin_x,
@@ -479,7 +463,7 @@ pub fn ongdhuse_point_to_local(
 pub fn ongdhuse_is_finite(x: f32) -> u32
     ensures { result ≡ flag_of (finite x) }
 {
-    if bits::is_finite(x) { 1 } else { 0 }
+    u32::from(bits::is_finite(x))
 }
 
 pub fn ongdhuse_next_up(x: f32) -> f32

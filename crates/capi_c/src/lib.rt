@@ -1,4 +1,5 @@
-// The C interface, include/ongdhuse.h: each function exports that of its name in the crate capi, and promises what it promises.
+// The C interface, include/ongdhuse.h: each function exports that of its name in the crate capi, and promises what it promises. A crate
+// that exports is none that Rattle can call, so the heads stand twice.
 // A slice passes as a pointer and a length, a `&mut` to a number as a pointer.
 #![tactic(auto)]
 

@@ -1,6 +1,5 @@
 -- Document 01, "Marked examples": the twelve as one statement, through the rules of the public entries. Definitions only.
-use Rattle.std.specs.Prelude.{◌≡◌, true, false, List, [], ◌∷◌, ℕ, pos, negsuc, Float}
-use Rattle.std.proofs.Math.Option.{none, some}
+use Rattle.std.specs.Prelude.{◌≡◌, true, false, None, Some, List, [], ◌∷◌, ℕ, pos, negsuc, Float}
 use Rattle.std.specs.Float.{nan, fin}
 use Rattle.bits.specs.Constants.{nought, infinite}
 use Rattle.space.specs.declared.Point3f.{Point3f}
@@ -11,7 +10,6 @@ use Rattle.search.specs.Search.{bounded, unbounded}
 use Rattle.lists.specs.Entry.{indices_in, squares_in}
 use Rattle.lists.specs.Entries.{nearest_listing}
 use Rattle.radius.specs.Entries.{radius_listing}
-use Rattle.matching.specs.declared.Limit.TheVariants.{At}
 use Rattle.matching.specs.Limit.{bound_of}
 use Rattle.matching.specs.Matching.{match_in}
 use Rattle.frame.specs.Entries.{frame_in}
@@ -76,8 +74,8 @@ pub record Examples : Type 0 where
   -- 3. (1,1,0), bound 1: nothing.
   pub three : bounded coords_k indices_k (at one1 one1) one1 Nothing ≡ gives Nothing
   -- 4. (1,1,0), limit 1: index 0.
-  pub four : bounded coords_k indices_k (at one1 one1) (bound_of (At one1)) Nothing ≡ gives (Found 0 one1)
-  pub four_matched : match_in (one1 ∷ one1 ∷ nought ∷ []) cloud_k coords_k indices_k (At one1) (no_match ∷ []) ≡ gives (0 ∷ [])
+  pub four : bounded coords_k indices_k (at one1 one1) (bound_of (Some one1)) Nothing ≡ gives (Found 0 one1)
+  pub four_matched : match_in (one1 ∷ one1 ∷ nought ∷ []) cloud_k coords_k indices_k (Some one1) (no_match ∷ []) ≡ gives (0 ∷ [])
   -- 5. (0.5,0,0): index 0, 0.25.
   pub five : unbounded coords_k indices_k (at half½ nought) ≡ gives (Found 0 quarter)
   -- 6. (0.5,0,0), seed 1 at 0.25: index 1.
@@ -90,10 +88,10 @@ pub record Examples : Type 0 where
   -- 9. (1,1,0), radius 1.5: 0, 2, 1.
   pub nine : returned indices_in (radius_listing coords_k indices_k (at one1 one1) one_and_half places4 room4) ≡ gives (0 ∷ 2 ∷ 1 ∷ [])
   -- 10. Limit 0: bound 2^-149.
-  pub ten : bound_of (At nought) ≡ fin false 1 (negsuc 148)
+  pub ten : bound_of (Some nought) ≡ fin false 1 (negsuc 148)
   -- 11. Cloud x = 99 and 101 (y = z = 0): no frame.
-  pub eleven : frame_in (two_on_x (fin false 99 (pos 0)) (fin false 101 (pos 0))) ≡ gives none
+  pub eleven : frame_in (two_on_x (fin false 99 (pos 0)) (fin false 101 (pos 0))) ≡ gives None
   -- 12. Cloud x = 100 and 102: origin 101, locals -1 and 1.
-  pub twelve : frame_in (two_on_x (fin false 25 (pos 2)) (fin false 51 (pos 1))) ≡ gives (some (record { origin = record { x = fin false 101 (pos 0); y = nought; z = nought } }))
+  pub twelve : frame_in (two_on_x (fin false 25 (pos 2)) (fin false 51 (pos 1))) ≡ gives (Some (record { origin = record { x = fin false 101 (pos 0); y = nought; z = nought } }))
   pub twelve_first : local_point (record { origin = record { x = fin false 101 (pos 0); y = nought; z = nought } }) (at (fin false 25 (pos 2)) nought) ≡ at (fin true 1 (pos 0)) nought
   pub twelve_second : local_point (record { origin = record { x = fin false 101 (pos 0); y = nought; z = nought } }) (at (fin false 51 (pos 1)) nought) ≡ at one1 nought

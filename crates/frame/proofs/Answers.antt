@@ -2,13 +2,9 @@
 use mathlib.Core.Path.{◌≡◌, sym, ap, ◌∙◌}
 use mathlib.Core.Bool.{true, false}
 use mathlib.Core.List.{List}
-use mathlib.Core.Option.{none, some}
-use Prim.Native.Nat.{◌%◌, ◌≤◌, ◌<◌}
-use lib.ListN.{length}
+use Rattle.std.proofs.Common.{None, Some}
 use lib.Ieee.{Float}
-use borrow.Author.Tests.{eq-eqb, ne_eqb, lt-ltb, le-ltb}
 use Rattle.space.specs.declared.Point3f.{Point3f}
-use Rattle.tree.specs.Refuse.{Outcome, refused, on_cloud, most_points, count}
 use Rattle.sums.specs.declared.Vector3d.{Vector3d}
 use Rattle.sums.specs.Vector.{narrow_point}
 use Rattle.frame.specs.declared.Moments.{Moments}
@@ -16,20 +12,6 @@ use Rattle.frame.specs.declared.CloudScale.{CloudScale}
 use Rattle.frame.specs.declared.LocalFrame.{LocalFrame}
 use Rattle.frame.specs.Moments.{moments_of, mean}
 use Rattle.frame.specs.Frame.{radius, scale_of, frame_on, near, frame_of}
-
--- ---- the refusals of a cloud
-
-module _ {A : Type 0} (cloud : List Float) (next : Outcome A) where
-  pub is-ragged : (length cloud % 3 ≡ 0 → ⊥) → refused 1 ≡ on_cloud cloud next
-  is-ragged h = rw (ne_eqb (length cloud % 3) 0 h)
-
-  pub has-too-many : length cloud % 3 ≡ 0 → most_points < count cloud → refused 2 ≡ on_cloud cloud next
-  has-too-many h k = rw (eq-eqb (length cloud % 3) 0 h, lt-ltb most_points (count cloud) k)
-
-  pub is-taken : length cloud % 3 ≡ 0 → count cloud ≤ most_points → next ≡ on_cloud cloud next
-  is-taken h k = rw (eq-eqb (length cloud % 3) 0 h, le-ltb most_points (count cloud) k)
-
--- ---- the answers
 
 module _ (cloud : List Float) {m : Moments} (e : m ≡ moments_of cloud) {v : Vector3d} (f : v ≡ mean m) where
   pub frame_is : record { origin = v } ≡ frame_on cloud
@@ -40,10 +22,10 @@ module _ (cloud : List Float) {m : Moments} (e : m ≡ moments_of cloud) {v : Ve
   unfolding scale_of
   scale-is p r a b = rw (a, b, f, e)
 
-pub no-frame : (cloud : List Float) (s : CloudScale) → s ≡ scale_of cloud → near s ≡ true → none ≡ frame_of cloud
+pub no-frame : (cloud : List Float) (s : CloudScale) → s ≡ scale_of cloud → near s ≡ true → None ≡ frame_of cloud
 unfolding frame_of
 no-frame cloud s e n = rw (sym (ap near e) ∙ n)
 
-pub a-frame : (cloud : List Float) (s : CloudScale) → s ≡ scale_of cloud → near s ≡ false → (f : LocalFrame) → f ≡ frame_on cloud → some f ≡ frame_of cloud
+pub a-frame : (cloud : List Float) (s : CloudScale) → s ≡ scale_of cloud → near s ≡ false → (f : LocalFrame) → f ≡ frame_on cloud → Some f ≡ frame_of cloud
 unfolding frame_of
 a-frame cloud s e n f g = rw (sym (ap near e) ∙ n, g)

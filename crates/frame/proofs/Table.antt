@@ -3,7 +3,7 @@
 use mathlib.Core.Path.{◌≡◌, refl}
 use mathlib.Core.Bool.{true, false}
 use mathlib.Core.List.{List, [], ◌∷◌}
-use mathlib.Core.Option.{none, some}
+use Rattle.std.proofs.Common.{None, Some}
 use lib.IntN.{pos, negsuc}
 use lib.Ieee.{Float, nan, inf, fin, add, sub, mul, div, neg, sum, round, units, odd, size, of_int, lt, le, eq}
 use Rattle.bits.specs.Constants.{nought}
@@ -14,10 +14,6 @@ use Rattle.space.specs.declared.Point3f.{Point3f}
 use Rattle.tree.specs.Cloud.{points, finite_point}
 use Rattle.tree.specs.Refuse.{refused, gives}
 use Rattle.frame.specs.declared.LocalFrame.{LocalFrame}
-use Rattle.frame.specs.declared.Scaled as S
-use Rattle.frame.specs.declared.Centred as C
-use Rattle.frame.specs.declared.Framed as F
-use Rattle.frame.specs.Cases.{scaled, centred, framed}
 use Rattle.frame.specs.Moments.{add_point, add_points, moments_of, divisor, mean}
 use Rattle.frame.specs.Frame.{at_least_nought, radius, scale_of, frame_on, near, frame_of, local_point}
 use Rattle.frame.specs.Entries.{scale_in, centred_in, frame_in}
@@ -66,28 +62,25 @@ thrice =
 
 record Table : Type 0 where
   -- examples 11 and 12: the norm is 100 and the radius 1; a frame exists only above that
-  example-11 : frame_in (pair #99 #101) ≡ gives none
-  example-12 : frame_in (pair #100 #102) ≡ gives (some (frame_at #101))
+  example-11 : frame_in (pair #99 #101) ≡ gives None
+  example-12 : frame_in (pair #100 #102) ≡ gives (Some (frame_at #101))
   example-12-locals : (local_point (frame_at #101) (on_x #100) ≡ on_x -1) × (local_point (frame_at #101) (on_x #102) ≡ on_x #1)
   -- non-finite points are skipped, and do not count
   skipped : scale_in (nan ∷ nought ∷ nought ∷ #99 ∷ nought ∷ nought ∷ nought ∷ inf true ∷ nought ∷ #101 ∷ nought ∷ nought ∷ []) ≡ gives (record { centroid = on_x #100; radius = #1 })
   -- none left: n is 1
   empty : (scale_in [] ≡ gives (record { centroid = on_x nought; radius = nought })) × (centred_in (nan ∷ nan ∷ nan ∷ []) ≡ gives (frame_at nought))
-  empty-near : frame_in [] ≡ gives none
+  empty-near : frame_in [] ≡ gives None
   -- every sum starts from +0
   signless : centred_in (-0 ∷ -0 ∷ -0 ∷ []) ≡ gives (frame_at nought)
   -- a spread below 0 counts as 0
   spread : (scale_of thrice).radius ≡ nought
   -- one point away from the origin has no size: far, wherever it is
-  single : frame_in (#1 ∷ nought ∷ nought ∷ []) ≡ gives (some (frame_at #1))
+  single : frame_in (#1 ∷ nought ∷ nought ∷ []) ≡ gives (Some (frame_at #1))
   -- the refusals, and the greatest norm
   ragged : (scale_in (#1 ∷ []) ≡ refused 1) × (centred_in (#1 ∷ #1 ∷ []) ≡ refused 1) × (frame_in (#1 ∷ #1 ∷ #1 ∷ #1 ∷ []) ≡ refused 1)
   -- a local point is rounded once, when it is narrowed
   rounded : local_point (frame_at (fin false 1 (negsuc 29))) (on_x #1) ≡ on_x #1
   -- the cases of the answers
-  cases-scale : (scaled (S.TheVariants.Scale (record { centroid = on_x #1; radius = #1 })) ≡ gives (record { centroid = on_x #1; radius = #1 })) × (scaled (S.TheVariants.Refused 2) ≡ refused 2)
-  cases-centred : (centred (C.TheVariants.Frame (frame_at #1)) ≡ gives (frame_at #1)) × (centred (C.TheVariants.Refused 2) ≡ refused 2)
-  cases-framed : (framed (F.TheVariants.Frame (frame_at #1)) ≡ gives (some (frame_at #1))) × (framed F.TheVariants.NoFrame ≡ gives none) × (framed (F.TheVariants.Refused 2) ≡ refused 2)
   -- added left to right: 1, 1 and 2 ^ 53
   left-to-right : (moments_of (#1 ∷ nought ∷ nought ∷ #1 ∷ nought ∷ nought ∷ fin false 1 (pos 53) ∷ nought ∷ nought ∷ [])).sum.x ≡ fin false 4503599627370497 (pos 1)
   -- the origin is the f64 mean, 4/3, and a local point is taken from it before it is narrowed
@@ -115,9 +108,6 @@ table =
       single = refl;
       ragged = (refl, refl, refl);
       rounded = refl;
-      cases-scale = (refl, refl);
-      cases-centred = (refl, refl);
-      cases-framed = (refl, refl, refl);
       left-to-right = refl;
       in-f64 = refl;
       narrowed-last = refl;

@@ -1,6 +1,6 @@
 -- The entries: their refusals in the order in which they are tested, or the answer. Definitions only.
 use Rattle.std.specs.Prelude.{List, Float}
-use Rattle.std.proofs.Math.Option.{Option}
+use Rattle.std.specs.Prelude.{Option}
 use Rattle.tree.specs.Refuse.{Outcome, gives, on_cloud}
 use Rattle.frame.specs.declared.CloudScale.{CloudScale}
 use Rattle.frame.specs.declared.LocalFrame.{LocalFrame}

@@ -1,6 +1,6 @@
 -- Document 01, "Matching, sums and frames": the scale of a cloud, its frame, and a point in it. Definitions only.
 use Rattle.std.specs.Prelude.{Bool, false, cond, List, pos, Float}
-use Rattle.std.proofs.Math.Option.{Option, none, some}
+use Rattle.std.specs.Prelude.{Option, None, Some}
 use Rattle.std.specs.Float.{fin, binary32, binary64}
 use Rattle.std.specs.Float.Ieee.{sub, mul, div, lt, le}
 use Rattle.bits.specs.Constants.{nought}
@@ -43,8 +43,8 @@ near s = le (root binary32 (squares binary32 s.centroid.x s.centroid.y s.centroi
 unfoldable pub frame_of : List Float → Option LocalFrame
 unfolding near scale_of frame_on
 frame_of cloud =
-    let far = some (frame_on cloud) in
-    cond (near (scale_of cloud)) none far
+    let far = Some (frame_on cloud) in
+    cond (near (scale_of cloud)) None far
 
 -- "a local point is (p - origin) narrowed"
 unfoldable pub local_point : LocalFrame → Point3f → Point3f

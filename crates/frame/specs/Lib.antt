@@ -1,4 +1,3 @@
 pub mod Moments
 pub mod Frame
-pub mod Cases
 pub mod Entries

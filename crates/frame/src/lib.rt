@@ -1,20 +1,19 @@
 // Where a cloud sits and how big it is, and the frame next to the origin in which f32 keeps its digits.
 #![tactic(auto)]
 
-ghost use Rattle.std.specs.Prelude.{◌≡◌, ◌<◌, ◌≤◌};
+ghost use Rattle.std.specs.Prelude.{◌≡◌, ◌<◌};
 ghost use Rattle.tree.specs.Cloud.{finite_point};
-ghost use Rattle.tree.specs.Refuse.{most_points, count};
+ghost use Rattle.tree.specs.Refusal.{outcome_of};
 ghost use Rattle.frame.specs.Moments.{zero_moments, add_point, moments_of, divisor, mean};
 ghost use Rattle.frame.specs.Frame.{at_least_nought, radius, near, local_point};
-ghost use Rattle.frame.specs.Cases.{scaled, centred, framed};
 ghost use Rattle.frame.specs.Entries.{scale_in, centred_in, frame_in};
 
 use space::Point3f;
 use sums::Vector3d;
-use tree::KdTree;
+use tree::{PointCloud, Refusal};
 
 // What is added up over the finite points of a cloud.
-#[derive(Clone, Copy)]
+#[derive(Clone, Copy, Debug, PartialEq)]
 pub struct Moments {
     pub count: u32,
     pub sum: Vector3d,
@@ -22,36 +21,16 @@ pub struct Moments {
 }
 
 // The centroid of a cloud's finite points, and their root mean squared distance from it.
-#[derive(Clone, Copy)]
+#[derive(Clone, Copy, Debug, PartialEq)]
 pub struct CloudScale {
     pub centroid: Point3f,
     pub radius: f32,
 }
 
 // A frame whose origin is a point of the world.
-#[derive(Clone, Copy)]
+#[derive(Clone, Copy, Debug, PartialEq)]
 pub struct LocalFrame {
     pub origin: Vector3d,
-}
-
-// What the entries answer.
-#[derive(Clone, Copy)]
-pub enum Scaled {
-    Scale(CloudScale),
-    Refused(u32),
-}
-
-#[derive(Clone, Copy)]
-pub enum Centred {
-    Frame(LocalFrame),
-    Refused(u32),
-}
-
-#[derive(Clone, Copy)]
-pub enum Framed {
-    Frame(LocalFrame),
-    NoFrame,
-    Refused(u32),
 }
 
 impl Moments {
@@ -72,7 +51,7 @@ impl Moments {
         ensures { result ≡ add_point self p }
     {
         if tree::is_finite_point(p) {
-            let v = Vector3d::of(p);
+            let v = Vector3d::from(p);
             Moments {
                 count: self.count + 1,
                 sum: self.sum.plus(v),
@@ -83,16 +62,12 @@ impl Moments {
         }
     }
 
-    fn of(cloud: &[f32]) -> Moments
-        requires { count cloud.now ≤ most_points }
+    fn of(cloud: &PointCloud) -> Moments
         ensures { result ≡ moments_of cloud.now }
     {
-        let n = cloud.len() / 3;
         let mut m = Moments::zero();
-        let mut i: usize = 0;
-        while i < n {
-            m = m.add(tree::point_at(cloud, i));
-            i += 1;
+        for i in 0..cloud.len() {
+            m = m.add(cloud.point(i));
         }
         m
     }
@@ -101,11 +76,7 @@ impl Moments {
     fn divisor(self) -> f64
         ensures { result ≡ divisor self }
     {
-        if self.count < 1 {
-            1.0
-        } else {
-            self.count as f64
-        }
+        self.count.max(1) as f64
     }
 
     fn mean(self) -> Vector3d
@@ -131,20 +102,15 @@ fn at_least_zero(v: f64) -> f64
 }
 
 impl CloudScale {
-    // The scale of a cloud's finite points, or the number of the refusal.
-    pub fn of(cloud: &[f32]) -> Scaled
-        ensures { scaled result ≡ scale_in cloud.now }
+    // The scale of a cloud's finite points.
+    pub fn of(cloud: &[f32]) -> Result<CloudScale, Refusal>
+        ensures { outcome_of result ≡ scale_in cloud.now }
     {
-        if cloud.len() % 3 != 0 {
-            return Scaled::Refused(1);
-        }
-        if KdTree::MAX_POINTS < cloud.len() / 3 {
-            return Scaled::Refused(2);
-        }
-        let m = Moments::of(cloud);
+        let cloud = PointCloud::of(cloud)?;
+        let m = Moments::of(&cloud);
         let centroid = m.mean().narrowed();
         let radius = m.radius();
-        Scaled::Scale(CloudScale { centroid, radius })
+        Ok(CloudScale { centroid, radius })
     }
 
     // Within 100 times its own size of the origin.
@@ -158,39 +124,29 @@ impl CloudScale {
 }
 
 impl LocalFrame {
-    // The frame at the mean of a cloud's finite points, or the number of the refusal.
-    pub fn centred_on(cloud: &[f32]) -> Centred
-        ensures { centred result ≡ centred_in cloud.now }
+    // The frame at the mean of a cloud's finite points.
+    pub fn centred_on(cloud: &[f32]) -> Result<LocalFrame, Refusal>
+        ensures { outcome_of result ≡ centred_in cloud.now }
     {
-        if cloud.len() % 3 != 0 {
-            return Centred::Refused(1);
-        }
-        if KdTree::MAX_POINTS < cloud.len() / 3 {
-            return Centred::Refused(2);
-        }
-        let origin = Moments::of(cloud).mean();
-        Centred::Frame(LocalFrame { origin })
+        let cloud = PointCloud::of(cloud)?;
+        let origin = Moments::of(&cloud).mean();
+        Ok(LocalFrame { origin })
     }
 
     // That frame, or none for a cloud that is near the origin.
-    pub fn if_far_from_origin(cloud: &[f32]) -> Framed
-        ensures { framed result ≡ frame_in cloud.now }
+    pub fn if_far_from_origin(cloud: &[f32]) -> Result<Option<LocalFrame>, Refusal>
+        ensures { outcome_of result ≡ frame_in cloud.now }
     {
-        if cloud.len() % 3 != 0 {
-            return Framed::Refused(1);
-        }
-        if KdTree::MAX_POINTS < cloud.len() / 3 {
-            return Framed::Refused(2);
-        }
-        let m = Moments::of(cloud);
+        let cloud = PointCloud::of(cloud)?;
+        let m = Moments::of(&cloud);
         let origin = m.mean();
         let centroid = origin.narrowed();
         let radius = m.radius();
         let scale = CloudScale { centroid, radius };
         if scale.near() {
-            Framed::NoFrame
+            Ok(None)
         } else {
-            Framed::Frame(LocalFrame { origin })
+            Ok(Some(LocalFrame { origin }))
         }
     }
 
@@ -198,6 +154,6 @@ impl LocalFrame {
     pub fn point_to_local(self, p: Point3f) -> Point3f
         ensures { result ≡ local_point self p }
     {
-        Vector3d::of(p).minus(self.origin).narrowed()
+        Vector3d::from(p).minus(self.origin).narrowed()
     }
 }

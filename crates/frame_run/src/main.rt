@@ -1,64 +1,48 @@
 // Scales, frames and local points run on small and on long clouds: what is written is compared with the file `stdout`.
 #![tactic(auto)]
 
-use frame::{Centred, CloudScale, Framed, LocalFrame, Scaled};
+use frame::{CloudScale, LocalFrame};
 use space::Point3f;
 use std::io;
+use trial::Bits;
 
 fn write_point(rt: &impl Print, p: Point3f) -> io::Result<()> {
-    trial::bits_f32(rt, p.x)?;
-    trial::bits_f32(rt, p.y)?;
-    trial::bits_f32(rt, p.z)
+    print!(rt; " {} {} {}", Bits(p.x), Bits(p.y), Bits(p.z))
 }
 
-fn write_refused(rt: &impl Print, n: u32) -> io::Result<()> {
-    trial::word(rt, b"refused")?;
-    trial::count(rt, n as u64)
-}
-
-fn write_frame(rt: &impl Print, f: LocalFrame, p: Point3f) -> io::Result<()> {
-    let o = f.origin;
-    trial::bits_f64(rt, o.x)?;
-    trial::bits_f64(rt, o.y)?;
-    trial::bits_f64(rt, o.z)?;
-    trial::word(rt, b"local")?;
-    write_point(rt, f.point_to_local(p))
+// A frame, with the point p in it.
+fn write_frame(rt: &impl Print, name: &str, frame: LocalFrame, p: Point3f) -> io::Result<()> {
+    let o = frame.origin;
+    print!(rt; " {name} {} {} {} local", Bits(o.x), Bits(o.y), Bits(o.z))?;
+    write_point(rt, frame.point_to_local(p))
 }
 
 fn show_scale(rt: &impl Print, cloud: &[f32]) -> io::Result<()> {
     match CloudScale::of(cloud) {
-        Scaled::Scale(s) => {
-            trial::word(rt, b"scale")?;
-            write_point(rt, s.centroid)?;
-            trial::bits_f32(rt, s.radius)?;
+        Ok(scale) => {
+            print!(rt; " scale")?;
+            write_point(rt, scale.centroid)?;
+            println!(rt; " {}", Bits(scale.radius))
         }
-        Scaled::Refused(n) => write_refused(rt, n)?,
+        Err(refusal) => println!(rt; " refused {}", refusal.number()),
     }
-    trial::line(rt)
 }
 
-// The frame at the mean, with the point p in it.
 fn show_centred(rt: &impl Print, cloud: &[f32], p: Point3f) -> io::Result<()> {
     match LocalFrame::centred_on(cloud) {
-        Centred::Frame(f) => {
-            trial::word(rt, b"centred")?;
-            write_frame(rt, f, p)?;
-        }
-        Centred::Refused(n) => write_refused(rt, n)?,
+        Ok(frame) => write_frame(rt, "centred", frame, p)?,
+        Err(refusal) => print!(rt; " refused {}", refusal.number())?,
     }
-    trial::line(rt)
+    println!(rt)
 }
 
 fn show_far(rt: &impl Print, cloud: &[f32], p: Point3f) -> io::Result<()> {
     match LocalFrame::if_far_from_origin(cloud) {
-        Framed::Frame(f) => {
-            trial::word(rt, b"far")?;
-            write_frame(rt, f, p)?;
-        }
-        Framed::NoFrame => trial::word(rt, b"near")?,
-        Framed::Refused(n) => write_refused(rt, n)?,
+        Ok(Some(frame)) => write_frame(rt, "far", frame, p)?,
+        Ok(None) => print!(rt; " near")?,
+        Err(refusal) => print!(rt; " refused {}", refusal.number())?,
     }
-    trial::line(rt)
+    println!(rt)
 }
 
 fn show(rt: &impl Print, cloud: &[f32], p: Point3f) -> io::Result<()> {
@@ -69,18 +53,18 @@ fn show(rt: &impl Print, cloud: &[f32], p: Point3f) -> io::Result<()> {
 
 // No finite point; one point; zeros with a sign; points that are skipped.
 fn show_few(rt: &impl Print) -> io::Result<()> {
-    let inf = 1.0f32 / 0.0;
-    let nan = inf - inf;
+    let inf = f32::INFINITY;
+    let nan = f32::NAN;
     let p = Point3f {
         x: 1.5,
         y: -0.0,
         z: 0.1,
     };
-    let one = [0.1f32, -0.2, 0.3];
-    show(rt, &one[..0], p)?;
+    let one = [0.1, -0.2, 0.3];
+    show(rt, &[], p)?;
     show(rt, &[nan, 1.0, 2.0, 3.0, inf, 4.0, 5.0, 6.0, -inf], p)?;
     show(rt, &one, p)?;
-    show(rt, &[-0.0, -0.0, -0.0, -0.0, -0.0, -0.0], p)?;
+    show(rt, &[-0.0; 6], p)?;
     show(
         rt,
         &[
@@ -89,7 +73,6 @@ fn show_few(rt: &impl Print) -> io::Result<()> {
         p,
     )
 }
-
 // Examples 11 and 12, and the same farther out: the norm of the centroid is 100 times the radius, and the next f32 above that.
 fn show_bounds(rt: &impl Print) -> io::Result<()> {
     let p = Point3f {
@@ -138,7 +121,7 @@ fn show_long(rt: &impl Print) -> io::Result<()> {
         y: 2.0,
         z: 3.0,
     };
-    let mut cloud = [0.0f32; 3000];
+    let mut cloud = [0.0; 3000];
     trial::fill(&mut cloud, 4);
     show(rt, &cloud, p)
 }
@@ -149,7 +132,7 @@ fn show_refused(rt: &impl Print) -> io::Result<()> {
         y: 0.0,
         z: 0.0,
     };
-    let four = [1.0f32, 2.0, 3.0, 4.0];
+    let four = [1.0, 2.0, 3.0, 4.0];
     show(rt, &four[..1], p)?;
     show(rt, &four[..2], p)?;
     show(rt, &four, p)

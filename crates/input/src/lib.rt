@@ -33,6 +33,7 @@ pub fn read_full<R: Read>(input: &mut R, bytes: &mut [u8]) -> io::Result<usize>
     ensures ended { IfOk result (λ n. n < length bytes.new → IsAtEnd (R.remaining input.new)) }
 {
     let mut n: usize = 0;
+    // By as much as each read gives.
     while n < bytes.len() {
         let k = read_some(input, &mut bytes[n..])?;
         if k == 0 {

@@ -1,104 +1,54 @@
 -- The refusals of an entry, and what it leaves behind: from the number that the code finds to the rule. Assumes nothing.
 use mathlib.Core.Path.{◌≡◌, refl, sym, ap, ap₂, ◌∙◌, subst}
-use mathlib.Core.Bool.{Bool, true, false, not, ◌||◌, cond}
-use mathlib.Core.List.{List, [], ◌∷◌, ◌++◌, map, map-append, append_assoc}
-use Prim.Native.Nat.{ℕ, suc, min, ◌+◌, ◌*◌, ◌^◌, ◌≤◌, ◌<◌}
+use mathlib.Core.Bool.{Bool, true, false}
+use mathlib.Core.List.{List, [], ◌∷◌, ◌++◌, map, map-append, append_assoc, append-nil}
+use Prim.Native.Nat.{ℕ, suc, min, ◌+◌, ◌^◌, ◌≤◌, ◌<◌}
 use native.Mathlib.Numerals.{add-one}
 use native.Mathlib.Omega.{arith}
-use lib.Dec.{T, ltb, eqb}
+use lib.Dec.{T, ltb}
 use lib.ListN.{length, get_or, set, take, drop, length-map, length-append, length-take, length-drop}
-use lib.Seq.{take_at, drop_at, get_or_at, set_at, take-suc, drop-cons, length-take-le}
+use lib.Seq.{take_at, drop_at, get_or_at, set_at, take-suc, drop-cons, length-take-le, take_all}
 use lib.Ieee.{Float, nan, binary32, fits}
-use borrow.Author.Tests.{ltb-true, ltb-false, lt-ltb, le-ltb, eqb-true, eq-eqb, ne_eqb}
+use Rattle.std.proofs.lemmas.List.{drop_all}
+use borrow.Author.Tests.{ltb-true, ltb-false}
 use Rattle.bits.specs.Root.{root}
 use Rattle.space.specs.declared.Point3f.{Point3f}
-use Rattle.tree.specs.Refuse.{Outcome, refused, gives, uneven, too_many, refuse, overwrite}
+use Rattle.tree.specs.Refuse.{Outcome, refused, gives, overwrite}
+use Rattle.std.proofs.Common.{Ok, Err}
+use Rattle.tree.specs.Refusal.{number_of}
+use Rattle.tree.specs.declared.Refusal.{Refusal}
+use Rattle.tree.proofs.Outcomes.{and_then, refuse-and_then}
 use Rattle.tree.specs.Part.{laid, lent}
+use Rattle.tree.specs.Lent.{Lent}
 use Rattle.tree.proofs.Slots.{slots_length}
 use Rattle.tree.proofs.Cloud.{lent_laid}
 use Rattle.lists.specs.Entry.{Entry, indices_in, squares_in, roots_in}
 use Rattle.lists.specs.Shift.{first_by}
 use Rattle.lists.specs.KNearest.{k_nearest}
-use Rattle.lists.specs.Entries.{listing, refusal_of, nearest_listing, Written, Held, NearestWritten}
-use Rattle.lists.specs.declared.Listed.{Listed}
-use Rattle.lists.specs.declared.Listed.TheVariants.{Count, Refused}
+use Rattle.lists.specs.Entries.{on_lists, listing, nearest_listing, Written, Held, NearestWritten}
 use Rattle.lists.proofs.Cut.{k-cut}
-use Rattle.lists.proofs.Seen.{nothing, see, judge, seen_all, held-few}
+use Rattle.lists.specs.Nearest.{see, judge}
+use Rattle.lists.proofs.Seen.{seen_all, held-few}
 use Rattle.lists.proofs.Built.{k-built}
 use Rattle.tree.specs.Walk.{walk}
 
--- ---- the number of the refusal
+-- ---- the refusals
 
--- no room for n in the shorter list
-less-min : (a b n : ℕ) → ltb (min a b) n ≡ (ltb a n || ltb b n)
-less-min a b n = go (ltb a n) (ltb b n) refl refl
-  where
-    go : (x y : Bool) → ltb a n ≡ x → ltb b n ≡ y → ltb (min a b) n ≡ (x || y)
-    go true y p q = lt-ltb (min a b) n (omega (arith, ltb-true a n p))
-    go false true p q = lt-ltb (min a b) n (omega (arith, ltb-true b n q))
-    go false false p q = le-ltb (min a b) n (omega (arith, ltb-false a n p, ltb-false b n q))
+-- refused, or the tree
+abbrev pub lined : List Float → List ℕ → List ℕ → List Float → ℕ → Outcome Lent
+lined coords indices is ds n = on_lists coords indices is ds n (gives (record { coords = coords; indices = indices }))
 
-module _ (coords : List Float) (indices : List ℕ) (is : List ℕ) (ds : List Float) (n : ℕ) (es : List Entry) where
-  abbrev due : ℕ
-  due = refusal_of coords indices n (min (length is) (length ds))
-
-  pub listing-refused : (w : ℕ) → w ≡ due → (w ≡ 0 → ⊥) → listing coords indices is ds n es ≡ refused w
-  listing-refused w e z = go (uneven coords indices) (too_many (length indices)) (ltb (length is) n || ltb (length ds) n) (e ∙ ap (λ (t : Bool). cond (uneven coords indices) 1 (cond (too_many (length indices)) 2 (cond t 3 0))) (less-min (length is) (length ds) n))
-    where
-      go : (a b c : Bool) → w ≡ cond a 1 (cond b 2 (cond c 3 0)) → refuse 1 a (refuse 2 b (refuse 3 c (gives es))) ≡ refused w
-      go true b c p = ap refused (sym p)
-      go false true c p = ap refused (sym p)
-      go false false true p = ap refused (sym p)
-      go false false false p = absurd (z p)
-
-  pub listing-gives : due ≡ 0 → listing coords indices is ds n es ≡ gives es
-  listing-gives e = go (uneven coords indices) (too_many (length indices)) (ltb (length is) n || ltb (length ds) n) (sym (ap (λ (t : Bool). cond (uneven coords indices) 1 (cond (too_many (length indices)) 2 (cond t 3 0))) (less-min (length is) (length ds) n)) ∙ e)
-    where
-      go : (a b c : Bool) → ◌≡◌ {A = ℕ} (cond a 1 (cond b 2 (cond c 3 0))) 0 → refuse 1 a (refuse 2 b (refuse 3 c (gives es))) ≡ gives es
-      go true b c p = absurd (omega arith)
-      go false true c p = absurd (omega arith)
-      go false false true p = absurd (omega arith)
-      go false false false p = refl
-
--- where none is due, what the conditions say
-pub record Sound (coords : List Float) (indices : List ℕ) (n room : ℕ) : Type 0 where
-  pub even : length coords ≡ 3 * length indices
-  pub few : length indices ≤ 1048576
-  pub fits_in : n ≤ room
-
-pub sound : (coords : List Float) (indices : List ℕ) (n room : ℕ) → refusal_of coords indices n room ≡ 0 → Sound coords indices n room
-sound coords indices n room = go (eqb (length coords) (3 * length indices)) (ltb 1048576 (length indices)) (ltb room n) refl refl refl
-  where
-    go : (a b c : Bool) → eqb (length coords) (3 * length indices) ≡ a → ltb 1048576 (length indices) ≡ b → ltb room n ≡ c → ◌≡◌ {A = ℕ} (cond (not a) 1 (cond b 2 (cond c 3 0))) 0 → Sound coords indices n room
-    go true true c p q r e = absurd (omega arith)
-    go true false true p q r e = absurd (omega arith)
-    go true false false p q r e =
-        record { even = eqb-true (length coords) (3 * length indices) p; few = ltb-false 1048576 (length indices) q; fits_in = ltb-false room n r }
-    go false b c p q r e = absurd (omega arith)
-
--- one test after the other
-module _ (coords : List Float) (indices : List ℕ) (n room : ℕ) where
-  pub refuses-1 : (length coords ≡ 3 * length indices → ⊥) → 1 ≡ refusal_of coords indices n room
-  refuses-1 a = rw (ne_eqb (length coords) (3 * length indices) a)
-
-  module _ (a : length coords ≡ 3 * length indices) where
-    pub refuses-2 : 1048576 < length indices → 2 ≡ refusal_of coords indices n room
-    refuses-2 b = rw (eq-eqb (length coords) (3 * length indices) a, lt-ltb 1048576 (length indices) b)
-
-    module _ (b : length indices ≤ 1048576) where
-      pub refuses-3 : room < n → 3 ≡ refusal_of coords indices n room
-      refuses-3 c = rw (eq-eqb (length coords) (3 * length indices) a, le-ltb 1048576 (length indices) b, lt-ltb room n c)
-
-      pub refuses-none : n ≤ room → 0 ≡ refusal_of coords indices n room
-      refuses-none c = rw (eq-eqb (length coords) (3 * length indices) a, le-ltb 1048576 (length indices) b, le-ltb room n c)
+module _ {o : Outcome Lent} (coords : List Float) (indices : List ℕ) (is : List ℕ) (ds : List Float) (n : ℕ) (es : List Entry) where
+  pub listing-told : o ≡ lined coords indices is ds n → and_then o (gives es) ≡ listing coords indices is ds n es
+  listing-told told = ap (λ (o : Outcome Lent). and_then o (gives es)) told ∙ simp refuse-and_then
 
 -- ---- what is left behind
 
 module _ {rule : Outcome (List Entry)} {handed : List Entry → List Float} {is : List ℕ} {ds : List Float} where
-  pub written-refused : (w : ℕ) → rule ≡ refused w → Written rule handed is ds (Refused w) is ds
-  written-refused w e = record { answer = rw e; indices = rw e; distances = rw e }
+  pub written-refused : (k : Refusal) → refused (number_of k) ≡ rule → Written rule handed is ds (Err k) is ds
+  written-refused k told = let e = sym told in record { answer = rw e; indices = rw e; distances = rw e }
 
-  pub written-gives : (es : List Entry) {n : ℕ} {is' : List ℕ} {ds' : List Float} → rule ≡ gives es → Held es handed is ds n is' ds' → Written rule handed is ds (Count n) is' ds'
+  pub written-gives : (es : List Entry) {n : ℕ} {is' : List ℕ} {ds' : List Float} → rule ≡ gives es → Held es handed is ds n is' ds' → Written rule handed is ds (Ok n) is' ds'
   written-gives es e h = record { answer = rw e (ap gives h.count); indices = rw e h.indices; distances = rw e h.distances }
 
 -- ---- k cut to the number of slots
@@ -118,7 +68,7 @@ module _ (coords : List Float) (indices : List ℕ) (q : Point3f) where
           k-cut q k (lent coords indices) (omega (arith, lent_length)) ∙ ap (λ (j : ℕ). k_nearest q j (lent coords indices)) e
 
   pub k-few : (k : ℕ) → length (k_nearest q k (lent coords indices)) ≤ k
-  k-few k = subst (λ (es : List Entry). length es ≤ k) (seen_all k q (lent coords indices)) (held-few k q (walk (see k q) (judge k q) q 0 (lent coords indices) nothing))
+  k-few k = subst (λ (es : List Entry). length es ≤ k) (seen_all k q (lent coords indices)) (held-few k q (walk see (judge k q) q 0 (lent coords indices) []))
 
   pub k-none : (k : ℕ) → min k (length indices) ≡ 0 → k_nearest q k (lent coords indices) ≡ []
   k-none k e = none (k_nearest q k (lent coords indices)) (omega (arith, ap length (k-least k), k-few (min k (length indices))))
@@ -147,23 +97,24 @@ held-as {handed} {es} {es'} {is} {ds} {n} {is'} {ds'} e h = subst (λ (x : List 
 module _ (handed : List Entry → List Float) (coords : List Float) (indices : List ℕ) (q : Point3f) (k : ℕ) (is : List ℕ) (ds : List Float)
     (floats : (i : ℕ) → T (fits binary32 (get_or coords i nan))) (small : (i : ℕ) → get_or indices i 0 < 2 ^ 32)
   where
-    pub nearest-refused : (most room w : ℕ) → most ≡ min k (length indices) → room ≡ min (length is) (length ds) → w ≡ refusal_of coords indices most room → (w ≡ 0 → ⊥)
-        → NearestWritten handed coords indices q k is ds (Refused w) is ds
+    pub nearest-refused : (most : ℕ) (w : Refusal) → most ≡ min k (length indices) → refused (number_of w) ≡ lined coords indices is ds most
+        → NearestWritten handed coords indices q k is ds (Err w) is ds
     unfolding nearest_listing
-    nearest-refused most room w a b e z =
+    nearest-refused most w a e =
         record {
-          written = written-refused w (listing-refused coords indices is ds (min k (length indices)) (k_nearest q k (lent coords indices)) w (e ∙ ap₂ (refusal_of coords indices) a b) z);
+          written = written-refused w (listing-told coords indices is ds (min k (length indices)) (k_nearest q k (lent coords indices)) (e ∙ ap (lined coords indices is ds) a));
           built = λ cloud t. k-built coords indices cloud floats small t q k;
         }
 
-    pub nearest-given : {n : ℕ} {is' : List ℕ} {ds' : List Float} (most room w : ℕ) → most ≡ min k (length indices) → room ≡ min (length is) (length ds) → w ≡ refusal_of coords indices most room → w ≡ 0
-        → Held (k_nearest q k (lent coords indices)) handed is ds n is' ds' → NearestWritten handed coords indices q k is ds (Count n) is' ds'
+    pub nearest-given : {n : ℕ} {is' : List ℕ} {ds' : List Float} {tree : Lent} (most : ℕ) → most ≡ min k (length indices) → gives tree ≡ lined coords indices is ds most
+        → Held (k_nearest q most (lent coords indices)) handed is ds n is' ds' → NearestWritten handed coords indices q k is ds (Ok n) is' ds'
     unfolding nearest_listing
-    nearest-given most room w a b e z h =
+    nearest-given most a e h =
         record {
           written =
               written-gives (k_nearest q k (lent coords indices))
-              (listing-gives coords indices is ds (min k (length indices)) (k_nearest q k (lent coords indices)) (sym (ap₂ (refusal_of coords indices) a b) ∙ sym e ∙ z)) h;
+              (sym (listing-told coords indices is ds (min k (length indices)) (k_nearest q k (lent coords indices)) (e ∙ ap (lined coords indices is ds) a)))
+              (held-as (k-least coords indices q k ∙ ap (λ (j : ℕ). k_nearest q j (lent coords indices)) (sym a)) h);
           built = λ cloud t. k-built coords indices cloud floats small t q k;
         }
 
@@ -197,6 +148,11 @@ first-turn {A} f d l cur i v h e g =
 pub first-length : {A : Type 0} (f : A → A) (l : List A) (i : ℕ) → length (first_by f l i) ≡ length l
 first-length f l i = length-append (map f (take i l)) (drop i l) ∙ omega (arith, length-map (take i l) f, length-take i l, length-drop i l)
 
+-- the first n by themselves, all changed
+pub first_all : {A : Type 0} (f : A → A) (l cur : List A) (n i : ℕ) → length (take n l) ≤ i → cur ≡ first_by f (take n l) i → cur ++ drop n l ≡ first_by f l n
+first_all {A} f l cur n i h e =
+    ap (λ (u : List A). u ++ drop n l) (e ∙ ap₂ (λ (u v : List A). map f u ++ v) (take_all i (take n l) h) (drop_all i (take n l) h) ∙ append-nil (map f (take n l)))
+
 pub held_fits : {es : List Entry} {is : List ℕ} {ds : List Float} {n : ℕ} {is' : List ℕ} {ds' : List Float} → Held es squares_in is ds n is' ds' → n ≤ length ds'
 unfolding squares_in
 held_fits {es} {is} {ds} {n} {is'} {ds'} h =
@@ -228,27 +184,21 @@ held-rooted {es} {is} {ds} {n} {is'} {ds'} {ds''} h e = subst (λ (u : List Floa
 
 -- what an answer says of the rule and of the lists: a number that they hold so many of its entries, a refusal that they are as they were, whatever is handed out
 module _ {handed : List Entry → List Float} {is : List ℕ} {ds : List Float} {is' : List ℕ} {ds' : List Float} where
-  written_held : {n : ℕ} (rule : Outcome (List Entry)) → Written rule handed is ds (Count n) is' ds' → (es : List Entry) × (rule ≡ gives es) × Held es handed is ds n is' ds'
+  written_held : {n : ℕ} (rule : Outcome (List Entry)) → Written rule handed is ds (Ok n) is' ds' → (es : List Entry) × (rule ≡ gives es) × Held es handed is ds n is' ds'
   written_held (refused m) w = let p = w.answer in absurd (let z : ◌≡◌ {A = ℕ} 0 1 = cc in omega arith)
   written_held {n} (gives es) w = let p = w.answer in (es, refl, record { count = let g : n ≡ length es = cc in g; indices = w.indices; distances = w.distances })
 
-  written-kept : {m : ℕ} (other : List Entry → List Float) (rule : Outcome (List Entry)) → Written rule handed is ds (Refused m) is' ds' → Written rule other is ds (Refused m) is' ds'
+  written-kept : {k : Refusal} (other : List Entry → List Float) (rule : Outcome (List Entry)) → Written rule handed is ds (Err k) is' ds' → Written rule other is ds (Err k) is' ds'
   written-kept other (refused m) w = record { answer = w.answer; indices = w.indices; distances = w.distances }
   written-kept other (gives es) w = let p = w.answer in absurd (let z : ◌≡◌ {A = ℕ} 0 1 = cc in omega arith)
 
-module _ {coords : List Float} {indices : List ℕ} {q : Point3f} {k : ℕ} {is : List ℕ} {ds : List Float} {r : Listed} {is' : List ℕ} {ds' : List Float} (w : NearestWritten squares_in coords indices q k is ds r is' ds') where
-  abbrev rule : Outcome (List Entry)
-  rule = nearest_listing coords indices q k is ds
+module _ {coords : List Float} {indices : List ℕ} {q : Point3f} {k : ℕ} {is : List ℕ} {ds : List Float} {is' : List ℕ} {ds' : List Float} where
+  module _ {n : ℕ} (w : NearestWritten squares_in coords indices q k is ds (Ok n) is' ds') where
+    pub nearest-fits : n ≤ length ds'
+    nearest-fits = held_fits (written_held _ w.written).2
 
-  told : (s : Listed) → r ≡ s → Written rule squares_in is ds s is' ds'
-  told s e = subst (λ (t : Listed). Written rule squares_in is ds t is' ds') e w.written
+    pub nearest-rooted : {ds'' : List Float} → ds'' ≡ first_by (root binary32) ds' n → NearestWritten roots_in coords indices q k is ds (Ok n) is' ds''
+    nearest-rooted f = let h = written_held _ w.written in record { written = written-gives h.0 h.1 (held-rooted h.2 f); built = w.built }
 
-  pub nearest-fits : {n : ℕ} → r ≡ Count n → n ≤ length ds'
-  nearest-fits {n} e = held_fits (written_held rule (told (Count n) e)).2
-
-  pub nearest-rooted : {n : ℕ} {ds'' : List Float} → r ≡ Count n → ds'' ≡ first_by (root binary32) ds' n → NearestWritten roots_in coords indices q k is ds (Count n) is' ds''
-  nearest-rooted {n} e f = let h = written_held rule (told (Count n) e) in record { written = written-gives h.0 h.1 (held-rooted h.2 f); built = w.built }
-
-  pub nearest-kept : {m : ℕ} → r ≡ Refused m → NearestWritten roots_in coords indices q k is ds r is' ds'
-  nearest-kept {m} e =
-      record { written = subst (λ (t : Listed). Written rule roots_in is ds t is' ds') (sym e) (written-kept roots_in rule (told (Refused m) e)); built = w.built }
+  pub nearest-kept : {e : Refusal} → NearestWritten squares_in coords indices q k is ds (Err e) is' ds' → NearestWritten roots_in coords indices q k is ds (Err e) is' ds'
+  nearest-kept w = record { written = written-kept roots_in _ w.written; built = w.built }

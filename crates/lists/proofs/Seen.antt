@@ -1,16 +1,16 @@
--- What the walk of k nearest has seen: the entries below infinity, in the order in which they were met. What is held are the first k of their sort, and of those the k-th distance only falls.
+-- What the walk of k nearest has seen: the slots, in the order in which they were met. What is held are the first k of the sort of their entries below infinity, and of those the k-th distance only falls.
 -- Assumes nothing.
 use mathlib.Core.Path.{◌≡◌, refl, sym, ap, ◌∙◌, subst}
 use mathlib.Core.Bool.{Bool, true, false, cond}
 use mathlib.Core.Logic.{⊎_elim}
-use mathlib.Core.List.{List, [], ◌∷◌, ◌++◌}
+use mathlib.Core.List.{List, [], ◌∷◌, ◌++◌, Memᴰ}
 use mathlib.Core.List.Memᴰ
 use Prim.Native.Nat.{ℕ, zero, suc, ◌≤◌, ◌<◌}
 use native.Mathlib.Nat.{le_of_suc-le-suc, not-suc-le-zero}
 use native.Mathlib.Omega.{arith}
 use lib.Dec.{T, ltb}
 use lib.ListN.{length, get_or, take, length-take, length-append}
-use lib.Ieee.{Float, binary32, fits, lt, le}
+use lib.Ieee.{binary32, fits, lt, le}
 use lib.Ieee.Bits.{is_true}
 use borrow.Author.Tests.{ltb-true, ltb-false}
 use Rattle.bits.specs.Constants.{infinite}
@@ -26,18 +26,12 @@ use Rattle.tree.proofs.Perm.{perm-mem}
 use Rattle.tree.proofs.Sort.{Sorted, side, sort-perm, sort_sorted, sort-length}
 use Rattle.tree.proofs.Stable.{insert_after, after-here, after-past, sort-snoc}
 use Rattle.tree.proofs.Walk.{Falling}
-use Rattle.lists.specs.Entry.{Entry, entry, far}
+use Rattle.lists.specs.Entry.{Entry, entry, far, keep}
 use Rattle.lists.specs.KNearest.{kth, offer, below_kth, below_infinity, k_nearest}
+use Rattle.lists.specs.Nearest.{below, first_of, see, judge}
 use Rattle.lists.proofs.KNearest.{Good, AllGood, T_true, step, e-good, get_or-mem, sorted-at, kth-at, kth-none, kth-number}
 pub use Rattle.lists.proofs.KNearest.{mem-first}
 use Rattle.lists.proofs.Follow.{changed-id, walk-follows}
-
-pub record Seen : Type 0 where
-  pub all : List Entry
-  pub good : AllGood all
-
-abbrev pub nothing : Seen
-nothing = record { all = []; good = λ x m. absurd (Memᴰ.not-nil m) }
 
 -- every distance is an f32 with its sign clear
 clear : (q : Point3f) (n : Slot) → T (plus (entry q n).distance)
@@ -74,92 +68,133 @@ module _ {A : Type 0} where
       here zero g p = omega arith
       here (suc i) g p = sorted-at key (b ∷ l) s i (suc i) d (omega arith) g
 
-module _ (k : ℕ) (q : Point3f) where
-  -- the first k of the sort
-  abbrev pub held_of : Seen → List Entry
-  held_of s = take k (sort far s.all)
+-- ---- the entries below infinity of what was seen
 
-  more : (n : Slot) (s : Seen) → below_infinity (entry q n) ≡ true → AllGood (s.all ++ (entry q n ∷ []))
-  more n s b x m =
-      ⊎_elim (s.good x)
-      (λ r. ⊎_elim (λ t. subst Good (sym t) (e-good k q n s.all s.good (clear q n) (fit q n) b)) (λ t. absurd (Memᴰ.not-nil t)) (Memᴰ.cases_cons r))
-      (Memᴰ.append_cases s.all m)
-
-  see_by : (n : Slot) (s : Seen) (c : Bool) → below_infinity (entry q n) ≡ c → Seen
-  see_by n s true b = record { all = s.all ++ (entry q n ∷ []); good = more n s b }
-  see_by n s false b = s
-
-  pub see : Slot → Seen → Seen
-  see n s = see_by n s (below_infinity (entry q n)) refl
-
-  abbrev pub judge : Float → Seen → Bool
-  judge pl s = below_kth k pl (held_of s)
-
-  pub see-held : (n : Slot) (s : Seen) → held_of (see n s) ≡ offer k q n (held_of s)
-  unfolding see
-  see-held n s = go (below_infinity (entry q n)) refl ∙ sym (step k q n s.all s.good (clear q n) (fit q n))
+module _ (q : Point3f) where
+  below-good : (seen : List Slot) → AllGood (below q seen)
+  unfolding below keep
+  below-good [] x m = absurd (Memᴰ.not-nil m)
+  below-good (n ∷ seen) x m = go (below_infinity (entry q n)) refl m (below-good seen x)
     where
-      go : (c : Bool) (b : below_infinity (entry q n) ≡ c) → held_of (see_by n s c b) ≡ cond c (take k (insert_after far (entry q n) (sort far s.all))) (take k (sort far s.all))
-      go true b = unfold see_by in ap (take k) (sort-snoc far s.all (entry q n))
-      go false b = unfold see_by in refl
+      rest : List Entry
+      rest = below q seen
+
+      go : (c : Bool) → below_infinity (entry q n) ≡ c → Memᴰ x (cond c (entry q n ∷ rest) rest) → (Memᴰ x rest → Good x) → Good x
+      go true b m ih =
+          ⊎_elim (λ t. subst Good (sym t) (e-good 0 q n [] (λ y h. absurd (Memᴰ.not-nil h)) (clear q n) (fit q n) b)) ih (Memᴰ.cases_cons m)
+      go false b m ih = ih m
+
+  -- one slot more
+  below-see : (n : Slot) (seen : List Slot) → below q (see n seen) ≡ cond (below_infinity (entry q n)) (below q seen ++ (entry q n ∷ [])) (below q seen)
+  unfolding below keep
+  below-see n [] = go (below_infinity (entry q n))
+    where
+      go : (c : Bool) → cond c (entry q n ∷ []) [] ≡ cond c (entry q n ∷ []) []
+      go c = refl
+  below-see n (m ∷ seen) =
+      ap (λ (u : List Entry). cond (below_infinity (entry q m)) (entry q m ∷ u) u) (below-see n seen)
+      ∙ go (below_infinity (entry q m)) (below_infinity (entry q n))
+    where
+      rest : List Entry
+      rest = below q seen
+
+      go : (b c : Bool) → cond b (entry q m ∷ cond c (rest ++ (entry q n ∷ [])) rest) (cond c (rest ++ (entry q n ∷ [])) rest)
+          ≡ cond c (cond b (entry q m ∷ rest) rest ++ (entry q n ∷ [])) (cond b (entry q m ∷ rest) rest)
+      go true true = refl
+      go true false = refl
+      go false true = refl
+      go false false = refl
+
+module _ (k : ℕ) (q : Point3f) where
+  pub see-held : (n : Slot) (seen : List Slot) → first_of k q (see n seen) ≡ offer k q n (first_of k q seen)
+  unfolding first_of
+  see-held n seen =
+      ap (λ (u : List Entry). take k (sort far u)) (below-see q n seen)
+      ∙ go (below_infinity (entry q n))
+      ∙ sym (step k q n (below q seen) (below-good q seen) (clear q n) (fit q n))
+    where
+      P : List Entry
+      P = below q seen
+
+      go : (c : Bool) → take k (sort far (cond c (P ++ (entry q n ∷ [])) P)) ≡ cond c (take k (insert_after far (entry q n) (sort far P))) (take k (sort far P))
+      go true = ap (take k) (sort-snoc far P (entry q n))
+      go false = refl
 
   -- the walk holds the first k of what it has seen
-  pub seen-walk : (axis : ℕ) (t : Part) (s : Seen) → held_of (walk see judge q axis t s) ≡ walk (offer k q) (below_kth k) q axis t (held_of s)
-  seen-walk axis t s =
-      walk-follows held_of (λ n. n) see judge (offer k q) (below_kth k) q (λ n. refl) see-held (λ pl u. refl) axis t s
-      ∙ ap (λ (u : Part). walk (offer k q) (below_kth k) q axis u (held_of s)) (changed-id t)
+  pub seen-walk : (axis : ℕ) (t : Part) (seen : List Slot) → first_of k q (walk see (judge k q) q axis t seen) ≡ walk (offer k q) (below_kth k) q axis t (first_of k q seen)
+  unfolding judge
+  seen-walk axis t seen =
+      walk-follows (first_of k q) (λ n. n) see (judge k q) (offer k q) (below_kth k) q (λ n. refl) see-held (λ pl u. refl) axis t seen
+      ∙ ap (λ (u : Part). walk (offer k q) (below_kth k) q axis u (first_of k q seen)) (changed-id t)
 
-  pub seen_all : (t : Part) → held_of (walk see judge q 0 t nothing) ≡ k_nearest q k t
-  unfolding k_nearest sort
-  seen_all t = seen-walk 0 t nothing ∙ ap (λ (u : List Entry). walk (offer k q) (below_kth k) q 0 t u) (none k)
+  pub first-none : first_of k q [] ≡ []
+  unfolding first_of below keep sort
+  first-none = go k
     where
-      none : (j : ℕ) → ◌≡◌ {A = List Entry} (take j []) []
-      none zero = refl
-      none (suc j) = refl
+      go : (j : ℕ) → ◌≡◌ {A = List Entry} (take j []) []
+      go zero = refl
+      go (suc j) = refl
+
+  pub seen_all : (t : Part) → first_of k q (walk see (judge k q) q 0 t []) ≡ k_nearest q k t
+  unfolding k_nearest
+  seen_all t = seen-walk 0 t [] ∙ ap (λ (u : List Entry). walk (offer k q) (below_kth k) q 0 t u) first-none
 
   -- ---- what is held
-  pub held-sorted : (s : Seen) → Sorted far (held_of s)
-  held-sorted s = sorted-first far k (sort far s.all) (sort_sorted far s.all)
+  pub held-sorted : (seen : List Slot) → Sorted far (first_of k q seen)
+  unfolding first_of
+  held-sorted seen = sorted-first far k (sort far (below q seen)) (sort_sorted far (below q seen))
 
-  pub held-good : (s : Seen) → AllGood (held_of s)
-  held-good s x m = s.good x (perm-mem (sort-perm far s.all) (mem-first k (sort far s.all) m))
+  pub held-good : (seen : List Slot) → AllGood (first_of k q seen)
+  unfolding first_of
+  held-good seen x m = below-good q seen x (perm-mem (sort-perm far (below q seen)) (mem-first k (sort far (below q seen)) m))
 
-  pub held-few : (s : Seen) → length (held_of s) ≤ k
-  held-few s = omega (arith, length-take k (sort far s.all))
+  pub held-few : (seen : List Slot) → length (first_of k q seen) ≤ k
+  unfolding first_of
+  held-few seen = omega (arith, length-take k (sort far (below q seen)))
 
   -- ---- the k-th distance only falls
-  falls : (n : Slot) (x : Entry) (s u : Seen) → sort far u.all ≡ insert_after far x (sort far s.all) → length s.all ≤ length u.all → T (le (kth k (held_of u)) (kth k (held_of s)))
+  falls : (n : Slot) (x : Entry) (P U : List Entry) → AllGood P → AllGood U → sort far U ≡ insert_after far x (sort far P) → length P ≤ length U
+      → T (le (kth k (take k (sort far U))) (kth k (take k (sort far P))))
   unfolding kth far
-  falls n x s u e h = go k refl
+  falls n x P U P-good U-good e h = go k refl
     where
-      good : (v : Seen) (j : ℕ) → j < length (sort far v.all) → Good (get_or (sort far v.all) j x)
-      good v j i = v.good _ (perm-mem (sort-perm far v.all) (get_or-mem (sort far v.all) j x i))
+      good : (V : List Entry) → AllGood V → (j : ℕ) → j < length (sort far V) → Good (get_or (sort far V) j x)
+      good V V-good j i = V-good _ (perm-mem (sort-perm far V) (get_or-mem (sort far V) j x i))
 
-      go : (i : ℕ) → k ≡ i → T (le (kth i (take i (sort far u.all))) (kth i (take i (sort far s.all))))
+      go : (i : ℕ) → k ≡ i → T (le (kth i (take i (sort far U))) (kth i (take i (sort far P))))
       go zero p = highest infinite tt
-      go (suc j) p = pick (ltb j (length (sort far s.all))) refl
+      go (suc j) p = pick (ltb j (length (sort far P))) refl
         where
-          pick : (c : Bool) → ltb j (length (sort far s.all)) ≡ c → T (le (kth (suc j) (take (suc j) (sort far u.all))) (kth (suc j) (take (suc j) (sort far s.all))))
+          pick : (c : Bool) → ltb j (length (sort far P)) ≡ c → T (le (kth (suc j) (take (suc j) (sort far U))) (kth (suc j) (take (suc j) (sort far P))))
           pick true r =
-              let i : j < length (sort far s.all) = ltb-true j (length (sort far s.all)) r in
-              let i' : j < length (sort far u.all) = omega (arith, sort-length far s.all, sort-length far u.all) in
-              let g = good s j i in
-              let g' = good u j i' in
-              let under : far (get_or (sort far u.all) j x) ≤ far (get_or (sort far s.all) j x) =
-              subst (λ (l : List Entry). far (get_or l j x) ≤ far (get_or (sort far s.all) j x)) (sym e) (after-under far x x (sort far s.all) j (sort_sorted far s.all) i) in
-              rw (kth-at j (sort far s.all) x i, kth-at j (sort far u.all) x i')
-              (key-le (get_or (sort far u.all) j x).distance (get_or (sort far s.all) j x).distance g'.held g.held g'.number g.number under)
+              let i : j < length (sort far P) = ltb-true j (length (sort far P)) r in
+              let i' : j < length (sort far U) = omega (arith, sort-length far P, sort-length far U) in
+              let g = good P P-good j i in
+              let g' = good U U-good j i' in
+              let under : far (get_or (sort far U) j x) ≤ far (get_or (sort far P) j x) =
+              subst (λ (l : List Entry). far (get_or l j x) ≤ far (get_or (sort far P) j x)) (sym e) (after-under far x x (sort far P) j (sort_sorted far P) i) in
+              rw (kth-at j (sort far P) x i, kth-at j (sort far U) x i')
+              (key-le (get_or (sort far U) j x).distance (get_or (sort far P) j x).distance g'.held g.held g'.number g.number under)
           pick false r =
-              rw (kth-none j (sort far s.all) (ltb-false j (length (sort far s.all)) r))
-              (highest (kth (suc j) (take (suc j) (sort far u.all))) (kth-number (suc j) q n u.all u.good (clear q n) (fit q n)))
+              rw (kth-none j (sort far P) (ltb-false j (length (sort far P)) r))
+              (highest (kth (suc j) (take (suc j) (sort far U))) (kth-number (suc j) q n U U-good (clear q n) (fit q n)))
 
-  pub seen-falling : Falling see judge
-  unfolding see below_kth
-  seen-falling pl n s = go (below_infinity (entry q n)) refl
+  pub seen-falling : Falling see (judge k q)
+  unfolding judge first_of below_kth
+  seen-falling pl n seen h = go (below_infinity (entry q n)) refl (ap (λ (u : List Entry). lt pl (kth k (take k (sort far u)))) (sym (below-see q n seen)) ∙ h)
     where
-      go : (c : Bool) (b : below_infinity (entry q n) ≡ c) → lt pl (kth k (held_of (see_by n s c b))) ≡ true → lt pl (kth k (held_of s)) ≡ true
+      P : List Entry
+      P = below q seen
+
+      U : List Entry
+      U = P ++ (entry q n ∷ [])
+
+      go : (c : Bool) → below_infinity (entry q n) ≡ c → lt pl (kth k (take k (sort far (cond c U P)))) ≡ true → lt pl (kth k (take k (sort far P))) ≡ true
       go true b h =
-          is_true (lt pl (kth k (held_of s)))
-          (lt-le-trans pl (kth k (held_of (see_by n s true b))) (kth k (held_of s)) (T_true (lt pl (kth k (held_of (see_by n s true b)))) h)
-          (falls n (entry q n) s (see_by n s true b) (unfold see_by in sort-snoc far s.all (entry q n)) (unfold see_by in omega (arith, length-append s.all (entry q n ∷ [])))))
-      go false b h = unfold see_by in h
+          is_true (lt pl (kth k (take k (sort far P))))
+          (lt-le-trans pl (kth k (take k (sort far U))) (kth k (take k (sort far P))) (T_true (lt pl (kth k (take k (sort far U)))) h)
+          (falls n (entry q n) P U (below-good q seen) more (sort-snoc far P (entry q n)) (omega (arith, length-append P (entry q n ∷ [])))))
+        where
+          more : AllGood U
+          more = subst AllGood (below-see q n seen ∙ ap (λ (c : Bool). cond c U P) b) (below-good q (see n seen))
+      go false b h = h

@@ -18,9 +18,9 @@ use Rattle.lists.specs.Entry.{Entry, entry, far, keep, indices_in, squares_in, r
 use Rattle.lists.specs.KNearest.{place, kth, offer, below_kth, k_nearest, below_infinity, k_nearest_all}
 use Rattle.lists.specs.Radius.{within, gather, plane_within, usable, in_radius, in_radius_all}
 use Rattle.lists.specs.Shift.{shifted, spot, staying, limit_of}
-use Rattle.lists.specs.Cases.{outcome_of}
-use Rattle.lists.specs.Entries.{nearest_listing, refusal_of, Written}
-use Rattle.lists.specs.declared.Listed.TheVariants.{Count, Refused}
+use Rattle.lists.specs.Entries.{on_lists, nearest_listing, Written}
+use Rattle.std.proofs.Common.{Ok, Err}
+use Rattle.tree.specs.declared.Refusal.TheVariants.{ShortOutput}
 
 abbrev o : Float
 o = fin false 0 (pos 0)
@@ -113,10 +113,10 @@ record Table : Type 0 where
   too_short : (nearest_k 2 (9 ∷ []) (o ∷ o ∷ []) ≡ refused 3) × (nearest_k 2 (9 ∷ 9 ∷ []) (o ∷ []) ≡ refused 3) × (returned indices_in (nearest_listing K of_k (at nan i) 2 (9 ∷ []) (o ∷ [])) ≡ refused 3)
   -- 1 before 3
   uneven-first : returned indices_in (nearest_listing [] (5 ∷ []) (at i i) 1 [] []) ≡ refused 1
-  refusals : (refusal_of [] (5 ∷ []) 1 0 ≡ 1) × (refusal_of [] [] 1 0 ≡ 3) × (refusal_of [] [] 1 1 ≡ 0)
+  refusals : (on_lists {A = ℕ} [] (5 ∷ []) [] [] 1 (gives 0) ≡ refused 1) × (on_lists {A = ℕ} [] [] [] [] 1 (gives 0) ≡ refused 3) × (on_lists {A = ℕ} [] [] (9 ∷ []) (o ∷ []) 1 (gives 0) ≡ gives 0)
   -- what is returned and left: the number of entries, indices and roots in front, the rest as it was
-  left_behind : Written (gives (pair 5 iv ∷ [])) roots_in (7 ∷ 8 ∷ []) (o ∷ i ∷ []) (Count 1) (5 ∷ 8 ∷ []) (ii ∷ i ∷ [])
-  left-refused : Written (refused 3) roots_in (7 ∷ 8 ∷ []) (o ∷ i ∷ []) (Refused 3) (7 ∷ 8 ∷ []) (o ∷ i ∷ [])
+  left_behind : Written (gives (pair 5 iv ∷ [])) roots_in (7 ∷ 8 ∷ []) (o ∷ i ∷ []) (Ok 1) (5 ∷ 8 ∷ []) (ii ∷ i ∷ [])
+  left-refused : Written (refused 3) roots_in (7 ∷ 8 ∷ []) (o ∷ i ∷ []) (Err ShortOutput) (7 ∷ 8 ∷ []) (o ∷ i ∷ [])
   -- squares, and their roots in f32
   handed : (squares_in (pair 5 iv ∷ []) ≡ iv ∷ []) × (roots_in (pair 5 ii ∷ []) ≡ fin false 11863283 (negsuc 22) ∷ [])
   -- ordered by the square, though both roots are 1
@@ -163,7 +163,3 @@ table =
       pushed = refl;
       stay = (refl, refl, refl, refl);
     }
-
--- the cases of the answer
-cases : (outcome_of (Count 7) ≡ gives 7) × (outcome_of (Refused 3) ≡ refused 3)
-cases = (refl, refl)

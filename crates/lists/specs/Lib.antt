@@ -2,5 +2,6 @@ pub mod Entry
 pub mod KNearest
 pub mod Radius
 pub mod Shift
-pub mod Cases
 pub mod Entries
+pub mod Lists
+pub mod Nearest

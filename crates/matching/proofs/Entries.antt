@@ -9,7 +9,7 @@ use lib.ListN.{length, take, drop, set, get_or}
 use lib.Seq.{take-suc, take_all, length-take-le, drop-length}
 use Rattle.tree.specs.Refuse.{overwrite}
 use Rattle.matching.specs.Entries.{entries_from}
-use Rattle.tree.proofs.Overwrite.{over-one, over-seam, length_over}
+use Rattle.tree.proofs.Overwrite.{over-one, over-seam}
 
 module _ (entry : ℕ → ℕ → ℕ) where
   entries-length : (j : ℕ) (ss : List ℕ) → length (entries_from entry j ss) ≡ length ss
@@ -38,13 +38,6 @@ module _ (entry : ℕ → ℕ → ℕ) where
 
   written-length : (ss : List ℕ) (i : ℕ) → i ≤ length ss → length (entries_from entry 0 (take i ss)) ≡ i
   written-length ss i h = entries-length 0 (take i ss) ∙ length-take-le i ss h
-
-  pub after_none : (ss : List ℕ) → ss ≡ after ss 0
-  unfolding entries_from
-  after_none ss = refl
-
-  pub after-length : (ss : List ℕ) (i : ℕ) → i ≤ length ss → length (after ss i) ≡ length ss
-  after-length ss i h = length_over (entries_from entry 0 (take i ss)) ss (subst (λ (k : ℕ). k ≤ length ss) (sym (written-length ss i h)) h)
 
   -- the seed still stands where the next entry goes
   pub after-seed : (ss : List ℕ) (i : ℕ) → i < length ss → get_or (after ss i) i 0 ≡ get_or ss i 0

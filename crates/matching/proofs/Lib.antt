@@ -1,7 +1,6 @@
 pub mod Pairs
 pub mod Entries
 pub mod Refusals
-pub mod Turns
 pub mod Demands
 pub mod Inside
 pub mod Determined

@@ -3,12 +3,14 @@ use Prim.Native.Nat.{ℕ, suc, ◌+◌, ◌≤◌, ◌<◌}
 use native.Mathlib.Nat.{add-zero, zero-add, add-suc, suc-add}
 use native.Mathlib.Omega.{arith}
 use mathlib.Core.Path.{◌≡◌, refl, sym, ap, ◌∙◌, subst}
-use mathlib.Core.Bool.{Bool, true, false, cond}
+use mathlib.Core.Bool.{Bool, true, false, not, cond}
 use mathlib.Core.List.{List, [], ◌∷◌, ◌++◌, append-nil, map}
 use lib.Dec.{eqb}
 use lib.ListN.{length, take, drop, set, get_or, length-append, take-append-drop, length-map}
 use lib.Seq.{take-suc, length-take-le}
 use borrow.Author.Tests.{eq-eqb, ne_eqb}
+use Rattle.std.specs.List.{count_by}
+use Rattle.std.proofs.lemmas.List.Recursion.{is_count_by}
 use Rattle.tree.specs.Refuse.{no_match, overwrite}
 use Rattle.matching.specs.Pairs.{Pair, pair, pairs_from, pairs}
 use Rattle.tree.proofs.Overwrite.{over-one, length_over}
@@ -83,3 +85,23 @@ front-le M i =
 
 pub written-length : (f : Pair → ℕ) (M S : List ℕ) (i : ℕ) → length (pairs M) ≤ length S → length (overwrite (map f (pairs (take i M))) S) ≡ length S
 written-length f M S i h = length_over (map f (pairs (take i M))) S (omega (arith, length-map (pairs (take i M)) f, front-le M i))
+
+-- a pair for each entry that is a match, wherever they begin
+elsewhere : (i j : ℕ) (M : List ℕ) → length (pairs_from i M) ≡ length (pairs_from j M)
+unfolding pairs_from
+elsewhere i j [] = refl
+elsewhere i j (m ∷ M) = go (eqb m no_match) (elsewhere (suc i) (suc j) M)
+  where
+    go : (b : Bool) → length (pairs_from (suc i) M) ≡ length (pairs_from (suc j) M)
+        → length (cond b (pairs_from (suc i) M) (pair i m ∷ pairs_from (suc i) M)) ≡ length (cond b (pairs_from (suc j) M) (pair j m ∷ pairs_from (suc j) M))
+    go true e = e
+    go false e = ap suc e
+
+pub pairs-count : (M : List ℕ) → length (pairs M) ≡ count_by (λ m. not (eqb m no_match)) M
+unfolding pairs pairs_from
+pairs-count M = is_count_by (λ (l : List ℕ). length (pairs l)) (λ m. not (eqb m no_match)) refl (λ m l. go m l (eqb m no_match) (elsewhere 1 0 l)) M
+  where
+    go : (m : ℕ) (l : List ℕ) (b : Bool) → length (pairs_from 1 l) ≡ length (pairs_from 0 l)
+        → length (cond b (pairs_from 1 l) (pair 0 m ∷ pairs_from 1 l)) ≡ cond (not b) (1 + length (pairs_from 0 l)) (length (pairs_from 0 l))
+    go m l true e = e
+    go m l false e = omega arith

@@ -36,7 +36,7 @@ whole : (n : ℕ) → eqb (n % 3) 0 ≡ true → n ≡ 3 * (n / 3)
 whole n e = let h = eqb-true (n % 3) 0 e in omega arith
 
 module _ (source target coords : List Float) (indices matches : List ℕ) where
-  abbrev Ruled : Outcome (Unit {0}) → Type 0
+  abbrev pub Ruled : Outcome (Unit {0}) → Type 0
   Ruled o = o ≡ on_matching source target coords indices matches (gives tt)
 
   pub refused-too : {A : Type 0} (n : ℕ) (next : Outcome A) → Ruled (refused n) → refused n ≡ on_matching source target coords indices matches next

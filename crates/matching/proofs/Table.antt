@@ -16,17 +16,15 @@ use Rattle.tree.specs.Part.{part_of, lent}
 use Rattle.tree.specs.Walk.{walk}
 use Rattle.search.specs.declared.Nearest.TheVariants.{Found, Nothing}
 use Rattle.search.specs.Search.{walked, searched}
-use Rattle.matching.specs.declared.Limit.{Limit}
-use Rattle.matching.specs.declared.Limit.TheVariants.{Unlimited, At}
-use Rattle.matching.specs.declared.Paired as P
-use Rattle.matching.specs.declared.Matched as M
+use Rattle.std.proofs.Common.{Result, Ok, Err, Option, None, Some}
+use Rattle.tree.specs.declared.Refusal.{Refusal}
+use Rattle.tree.specs.declared.Refusal.TheVariants.{ShortOutput}
 use Rattle.matching.specs.Limit.{bound_of}
 use Rattle.matching.specs.Entries.{entries_from}
 use Rattle.matching.specs.Refusals.{in_order, two}
 use Rattle.matching.specs.Matching.{seed_of, match_of, answer_for, match_all, match_in}
 use Rattle.matching.specs.Pairs.{pairs_from, pairs, pairs_in, written}
 use Rattle.matching.specs.TargetPoint.{part_at, place_of}
-use Rattle.matching.specs.Cases.{paired_of, matched_of}
 use Rattle.matching.specs.Promises.{HandsPart, ListsPairs, Matches}
 
 abbrev o : Float
@@ -57,7 +55,7 @@ coords_k = o ∷ v ∷ o ∷ o ∷ o ∷ o ∷ i ∷ o ∷ o ∷ ii ∷ o ∷ o 
 abbrev of_k : List ℕ
 of_k = 3 ∷ 1 ∷ 0 ∷ 2 ∷ []
 
-abbrev in-K : List Float → Limit → List ℕ → Outcome (List ℕ)
+abbrev in-K : List Float → Option Float → List ℕ → Outcome (List ℕ)
 in-K source limit seeds = match_in source K coords_k of_k limit seeds
 
 -- one source point
@@ -69,50 +67,48 @@ on_half = half ∷ o ∷ o ∷ []
 
 record Table : Type 0 where
   -- "d >= 0 (also -0) gives the next f32 above d·d": by its bits
-  limits : (to_bits binary32 (bound_of (At o)) ≡ 1) × (to_bits binary32 (bound_of (At (fin true 0 (pos 0)))) ≡ 1) × (to_bits binary32 (bound_of (At i)) ≡ 0x3f80_0001)
-      × (to_bits binary32 (bound_of (At ii)) ≡ 0x4080_0001) × (to_bits binary32 (bound_of (At (fin false 1 (negsuc 79)))) ≡ 1)
+  limits : (to_bits binary32 (bound_of (Some o)) ≡ 1) × (to_bits binary32 (bound_of (Some (fin true 0 (pos 0)))) ≡ 1) × (to_bits binary32 (bound_of (Some i)) ≡ 0x3f80_0001)
+      × (to_bits binary32 (bound_of (Some ii)) ≡ 0x4080_0001) × (to_bits binary32 (bound_of (Some (fin false 1 (negsuc 79)))) ≡ 1)
   -- "d < 0 gives 0", "infinity staying infinity", "NaN or no limit gives infinity"
-  limits-else : (bound_of (At (fin true 1 (pos 0))) ≡ nought) × (bound_of (At (inf true)) ≡ nought) × (bound_of (At (fin false 1 (pos 64))) ≡ infinite)
-      × (bound_of (At infinite) ≡ infinite) × (bound_of (At nan) ≡ infinite) × (bound_of Unlimited ≡ infinite)
+  limits-else : (bound_of (Some (fin true 1 (pos 0))) ≡ nought) × (bound_of (Some (inf true)) ≡ nought) × (bound_of (Some (fin false 1 (pos 64))) ≡ infinite)
+      × (bound_of (Some infinite) ≡ infinite) × (bound_of (Some nan) ≡ infinite) × (bound_of None ≡ infinite)
   -- "if its seed s is present, the seed's distance is taken to target point s"
   seeds : (seed_of K (at i i) no_match ≡ Nothing) × (seed_of K (at i i) 0 ≡ Found 0 i) × (seed_of K (at i i) 3 ≡ Found 3 (fin false 17 (pos 0)))
   entries : (match_of (Found 7 i) ≡ 7) × (match_of Nothing ≡ 4294967295)
   -- each source point by itself: (1, 1, 0), a NaN, (2, 0, 0)
-  in-order : in-K (i ∷ i ∷ o ∷ nan ∷ o ∷ o ∷ ii ∷ o ∷ o ∷ []) Unlimited (no_match ∷ no_match ∷ no_match ∷ []) ≡ gives (0 ∷ no_match ∷ 2 ∷ [])
+  in-order : in-K (i ∷ i ∷ o ∷ nan ∷ o ∷ o ∷ ii ∷ o ∷ o ∷ []) None (no_match ∷ no_match ∷ no_match ∷ []) ≡ gives (0 ∷ no_match ∷ 2 ∷ [])
   -- examples 5 and 6 through matching: a seed stays unless a point is strictly nearer, and one at a NaN does not
-  unseeded : in-K on_half Unlimited (no_match ∷ []) ≡ gives (0 ∷ [])
-  seeded : in-K on_half Unlimited (1 ∷ []) ≡ gives (1 ∷ [])
-  seed-farther : in-K on_half Unlimited (2 ∷ []) ≡ gives (0 ∷ [])
+  unseeded : in-K on_half None (no_match ∷ []) ≡ gives (0 ∷ [])
+  seeded : in-K on_half None (1 ∷ []) ≡ gives (1 ∷ [])
+  seed-farther : in-K on_half None (2 ∷ []) ≡ gives (0 ∷ [])
   -- example 4: a point at exactly the limit is kept; below it none; a difference of 2^-80 lies within limit 0
-  at-limit : in-K one1 (At i) (no_match ∷ []) ≡ gives (0 ∷ [])
-  under-limit : in-K one1 (At half) (no_match ∷ []) ≡ gives (no_match ∷ [])
-  limit-nought : in-K (i ∷ fin false 1 (negsuc 79) ∷ o ∷ []) (At o) (no_match ∷ []) ≡ gives (0 ∷ [])
-  seed-beyond-limit : in-K one1 (At half) (0 ∷ []) ≡ gives (no_match ∷ [])
+  at-limit : in-K one1 (Some i) (no_match ∷ []) ≡ gives (0 ∷ [])
+  under-limit : in-K one1 (Some half) (no_match ∷ []) ≡ gives (no_match ∷ [])
+  limit-nought : in-K (i ∷ fin false 1 (negsuc 79) ∷ o ∷ []) (Some o) (no_match ∷ []) ≡ gives (0 ∷ [])
+  seed-beyond-limit : in-K one1 (Some half) (0 ∷ []) ≡ gives (no_match ∷ [])
   -- 1, for each of the four lists
-  ones : (in-K (i ∷ []) Unlimited [] ≡ refused 1) × (match_in one1 (i ∷ o ∷ o ∷ i ∷ []) [] [] Unlimited (no_match ∷ []) ≡ refused 1)
-      × (match_in one1 K [] of_k Unlimited (no_match ∷ []) ≡ refused 1) × (in-K one1 Unlimited [] ≡ refused 1) × (in-K one1 Unlimited (0 ∷ 0 ∷ []) ≡ refused 1)
+  ones : (in-K (i ∷ []) None [] ≡ refused 1) × (match_in one1 (i ∷ o ∷ o ∷ i ∷ []) [] [] None (no_match ∷ []) ≡ refused 1)
+      × (match_in one1 K [] of_k None (no_match ∷ []) ≡ refused 1) × (in-K one1 None [] ≡ refused 1) × (in-K one1 None (0 ∷ 0 ∷ []) ≡ refused 1)
   -- 4, for either cloud, and before 5
-  fours : (in-K [] Unlimited [] ≡ refused 4) × (match_in one1 [] [] [] Unlimited (no_match ∷ []) ≡ refused 4) × (match_in [] K coords_k (9 ∷ 1 ∷ 0 ∷ 2 ∷ []) Unlimited [] ≡ refused 4)
+  fours : (in-K [] None [] ≡ refused 4) × (match_in one1 [] [] [] None (no_match ∷ []) ≡ refused 4) × (match_in [] K coords_k (9 ∷ 1 ∷ 0 ∷ 2 ∷ []) None [] ≡ refused 4)
   -- 5, for a seed and for an index in the tree; a seed goes by the target count
-  fives : (in-K one1 Unlimited (4 ∷ []) ≡ refused 5) × (match_in one1 K coords_k (3 ∷ 1 ∷ 0 ∷ 4 ∷ []) Unlimited (no_match ∷ []) ≡ refused 5)
-      × (match_in one1 K coords_k (3 ∷ 1 ∷ 0 ∷ no_match ∷ []) Unlimited (no_match ∷ []) ≡ refused 5) × (in-K one1 Unlimited (3 ∷ []) ≡ gives (0 ∷ []))
+  fives : (in-K one1 None (4 ∷ []) ≡ refused 5) × (match_in one1 K coords_k (3 ∷ 1 ∷ 0 ∷ 4 ∷ []) None (no_match ∷ []) ≡ refused 5)
+      × (match_in one1 K coords_k (3 ∷ 1 ∷ 0 ∷ no_match ∷ []) None (no_match ∷ []) ≡ refused 5) × (in-K one1 None (3 ∷ []) ≡ gives (0 ∷ []))
   -- "Tested in the order 1, 2, 4, 3, 5"
   tested : (in_order {A = ℕ} true true true true (gives 0) ≡ refused 1) × (in_order {A = ℕ} false true true true (gives 0) ≡ refused 2) × (in_order {A = ℕ} false false true true (gives 0) ≡ refused 4)
       × (in_order {A = ℕ} false false false true (gives 0) ≡ refused 5) × (in_order {A = ℕ} false false false false (gives 0) ≡ gives 0)
   -- source and target of each matched entry, in source order; what is beyond keeps its value
-  listed : ListsPairs (1 ∷ no_match ∷ 0 ∷ []) (7 ∷ 7 ∷ 7 ∷ []) (8 ∷ 8 ∷ []) (P.TheVariants.Wrote 2) (0 ∷ 2 ∷ 7 ∷ []) (1 ∷ 0 ∷ [])
+  listed : ListsPairs (1 ∷ no_match ∷ 0 ∷ []) (7 ∷ 7 ∷ 7 ∷ []) (8 ∷ 8 ∷ []) (Ok 2) (0 ∷ 2 ∷ 7 ∷ []) (1 ∷ 0 ∷ [])
   -- 3, for either list, which then stay as they were
-  no-sources : ListsPairs (1 ∷ no_match ∷ 0 ∷ []) (7 ∷ []) (8 ∷ 8 ∷ []) (P.TheVariants.Refused 3) (7 ∷ []) (8 ∷ 8 ∷ [])
-  no_targets : ListsPairs (1 ∷ no_match ∷ 0 ∷ []) (7 ∷ 7 ∷ []) (8 ∷ []) (P.TheVariants.Refused 3) (7 ∷ 7 ∷ []) (8 ∷ [])
+  no-sources : ListsPairs (1 ∷ no_match ∷ 0 ∷ []) (7 ∷ []) (8 ∷ 8 ∷ []) (Err ShortOutput) (7 ∷ []) (8 ∷ 8 ∷ [])
+  no_targets : ListsPairs (1 ∷ no_match ∷ 0 ∷ []) (7 ∷ 7 ∷ []) (8 ∷ []) (Err ShortOutput) (7 ∷ 7 ∷ []) (8 ∷ [])
   -- the part of a point and where it begins, in a cloud that begins at byte 100; and the empty part
   part : HandsPart (7, 100) K 2 (7, 124) (ii ∷ o ∷ o ∷ [])
   part-outside : HandsPart (7, 100) K 4 (7, 100) []
   part-ragged : HandsPart (7, 100) (i ∷ i ∷ i ∷ i ∷ []) 0 (7, 100) []
   -- what the promise leaves in the match list
-  left_over : {r : M.Matched} {l : List ℕ} → Matches one1 K coords_k of_k Unlimited (no_match ∷ []) r l → l ≡ 0 ∷ []
-  left-refused : {r : M.Matched} {l : List ℕ} → Matches one1 K coords_k of_k Unlimited (4 ∷ []) r l → l ≡ 4 ∷ []
-  -- the cases of the answers
-  cases : (paired_of (P.TheVariants.Wrote 7) ≡ gives 7) × (paired_of (P.TheVariants.Refused 3) ≡ refused 3) × (matched_of M.TheVariants.Done ≡ gives tt) × (matched_of (M.TheVariants.Refused 5) ≡ refused 5)
+  left_over : {r : Result (Unit {0}) Refusal} {l : List ℕ} → Matches one1 K coords_k of_k None (no_match ∷ []) r l → l ≡ 0 ∷ []
+  left-refused : {r : Result (Unit {0}) Refusal} {l : List ℕ} → Matches one1 K coords_k of_k None (4 ∷ []) r l → l ≡ 4 ∷ []
 
 table : Table
 unfolding
@@ -144,7 +140,6 @@ table =
       part-ragged = record { holds = refl; stands = refl };
       left_over = λ m. m.list_left;
       left-refused = λ m. m.list_left;
-      cases = (refl, refl, refl, refl);
     }
 
 -- 2: lists that long are too long for a row, so that it is told of every list

@@ -4,5 +4,4 @@ pub mod TargetPoint
 pub mod Entries
 pub mod Refusals
 pub mod Matching
-pub mod Cases
 pub mod Promises

@@ -1,5 +1,5 @@
 -- Document 01, "Matching, sums and frames": matching. Definitions only.
-use Rattle.std.specs.Prelude.{ℕ, cond, List, eqb, Float}
+use Rattle.std.specs.Prelude.{ℕ, cond, List, eqb, Float, Option}
 use Rattle.space.specs.declared.Point3f.{Point3f}
 use Rattle.space.specs.Distance.{distance_squared}
 use Rattle.tree.specs.Refuse.{Outcome, gives, no_match}
@@ -7,7 +7,6 @@ use Rattle.tree.specs.Slots.{point_at}
 use Rattle.search.specs.declared.Nearest.{Nearest}
 use Rattle.search.specs.declared.Nearest.TheVariants.{Found, Nothing}
 use Rattle.search.specs.Search.{searched}
-use Rattle.matching.specs.declared.Limit.{Limit}
 use Rattle.matching.specs.Limit.{bound_of}
 use Rattle.matching.specs.Entries.{entries_from}
 use Rattle.matching.specs.Refusals.{on_matching}
@@ -34,6 +33,6 @@ module _ (source target coords : List Float) (indices : List ℕ) (bound : Float
   match_all seeds = entries_from (λ i s. match_of (answer_for i s)) 0 seeds
 
 -- matching: its refusals, then the match list
-unfoldable pub match_in : List Float → List Float → List Float → List ℕ → Limit → List ℕ → Outcome (List ℕ)
+unfoldable pub match_in : List Float → List Float → List Float → List ℕ → Option Float → List ℕ → Outcome (List ℕ)
 unfolding match_all bound_of
 match_in source target coords indices limit matches = on_matching source target coords indices matches (gives (match_all source target coords indices (bound_of limit) matches))

@@ -1,92 +1,51 @@
 // Which target point each source point belongs to: the limit, matching with seeds, the pair list, and a target point as a part of its cloud.
 #![tactic(auto)]
 
-ghost use Rattle.std.specs.Prelude.{◌||◌, ◌≡◌, ◌+◌, ◌*◌, ◌<◌, ◌≤◌, length, get_or, set};
-ghost use Rattle.search.specs.Search.{searched};
-ghost use Rattle.tree.specs.Refuse.{no_match, overwrite, gives, ragged, uneven, mismatched, too_many, any_entry_outside, any_index_outside};
+ghost use Rattle.std.specs.Prelude.{◌||◌, ◌≡◌, ◌<◌, ◌≤◌, length, get_or, set};
+ghost use Rattle.tree.specs.Refuse.{no_match, overwrite, gives, count, ragged, uneven, mismatched, too_many, any_entry_outside, any_index_outside};
+ghost use Rattle.tree.specs.Refusal.{outcome_of};
 ghost use Rattle.matching.specs.Limit.{bound_of};
 ghost use Rattle.matching.specs.Pairs.{pairs, sources_of, targets_of};
 ghost use Rattle.matching.specs.Refusals.{on_matching, Clear};
 ghost use Rattle.matching.specs.Matching.{seed_of, match_of, answer_for, match_all};
-ghost use Rattle.matching.specs.Cases.{matched_of};
 ghost use Rattle.matching.specs.Promises.{HandsPart, ListsPairs, Matches};
 
-use search::{Nearest, Searched};
+use search::Nearest;
 use space::Point3f;
-use tree::KdTree;
-
-// A limit on the distance of a match.
-#[derive(Clone, Copy)]
-pub enum Limit {
-    Unlimited,
-    At(f32),
-}
-
-// What the pair list returns: a refusal, or how many pairs it wrote.
-#[derive(Clone, Copy)]
-pub enum Paired {
-    Refused(u32),
-    Wrote(usize),
-}
-
-// What matching returns: a refusal, or that the match list holds the matches.
-#[derive(Clone, Copy)]
-pub enum Matched {
-    Refused(u32),
-    Done,
-}
+use tree::{KdTree, PointCloud, Refusal};
 
 // The bound under which bounded search finds the points within a limit: a point at exactly the limit is found.
-pub fn max_distance_sq(limit: Limit) -> f32
+#[tactic(auto, unfolding(crate::specs::Limit::bound_of))]
+pub fn max_distance_sq(limit: Option<f32>) -> f32
     ensures { result ≡ bound_of limit }
 {
-    let Limit::At(d) = limit else {
-        return f32::from_bits(0x7f80_0000);
-    };
-    if d < 0.0 {
-        return 0.0;
+    match limit {
+        Some(d) if d < 0.0 => 0.0,
+        Some(d) if d >= 0.0 => bits::next_up(d * d),
+        _ => f32::INFINITY,
     }
-    if d >= 0.0 {
-        return bits::next_up(d * d);
-    }
-    f32::from_bits(0x7f80_0000)
 }
 
 // The three numbers of a point, as a part of the cloud itself; the empty part where there is no such point.
+#[tactic(auto, unfolding(crate::specs::TargetPoint::part_at, crate::specs::TargetPoint::place_of))]
 pub fn target_point(cloud: &[f32], index: u32) -> &[f32]
     ensures { HandsPart cloud.entry.ref_ptr cloud.now index result.ref_ptr result.now }
 {
-    let n = cloud.len();
+    let n = cloud.len() / 3;
     let i = index as usize;
-    if n % 3 != 0 {
-        return &cloud[0..0];
+    if cloud.len() % 3 != 0 || KdTree::MAX_POINTS < n || n <= i {
+        return &cloud[..0];
     }
-    let m = n / 3;
-    if KdTree::MAX_POINTS < m {
-        return &cloud[0..0];
-    }
-    if i < m {
-        let a = 3 * i;
-        let e = a + 3;
-        &cloud[a..e]
-    } else {
-        &cloud[0..0]
-    }
+    let a = 3 * i;
+    let e = a + 3;
+    &cloud[a..e]
 }
 
 // How many entries are matched.
 fn count_matched(matches: &[u32]) -> usize
     ensures { result ≡ length (pairs matches.now) }
 {
-    let mut n: usize = 0;
-    let mut i: usize = 0;
-    while i < matches.len() {
-        if matches[i] != KdTree::NO_CHILD {
-            n += 1;
-        }
-        i += 1;
-    }
-    n
+    matches.iter().filter(|&&m| m != KdTree::NO_CHILD).count()
 }
 
 // Source and target index of each matched entry, written where there is room for all of them.
@@ -94,179 +53,119 @@ fn write_pairs(matches: &[u32], sources: &mut [u32], targets: &mut [u32])
     requires { (length matches.now ≤ 1048576) × (length (pairs matches.now) ≤ length sources.old) × (length (pairs matches.now) ≤ length targets.old) }
     ensures { (sources.new ≡ overwrite (sources_of (pairs matches.now)) sources.old) × (targets.new ≡ overwrite (targets_of (pairs matches.now)) targets.old) }
 {
-    let entries = matches.len();
-    let mut n: usize = 0;
-    let mut i: usize = 0;
-    while i < entries {
-        let m = matches[i];
+    let mut n = 0;
+    for (i, &m) in matches.iter().enumerate() {
         if m != KdTree::NO_CHILD {
             sources[n] = i as u32;
             targets[n] = m;
             n += 1;
         }
-        i += 1;
     }
 }
 
-// The pair list: source and target index of each matched entry, in source order.
-pub fn correspondence_pairs(matches: &[u32], sources: &mut [u32], targets: &mut [u32]) -> Paired
+// The pair list: source and target index of each matched entry, in source order. Tells how many pairs it wrote.
+#[tactic(auto, unfolding(crate::specs::Pairs::pairs_in))]
+pub fn correspondence_pairs(
+    matches: &[u32],
+    sources: &mut [u32],
+    targets: &mut [u32],
+) -> Result<usize, Refusal>
     ensures { ListsPairs matches.now sources.old targets.old result sources.new targets.new }
 {
     if KdTree::MAX_POINTS < matches.len() {
-        return Paired::Refused(2);
+        return Err(Refusal::TooMany);
     }
     let n = count_matched(matches);
-    if sources.len() < n {
-        return Paired::Refused(3);
-    }
-    if targets.len() < n {
-        return Paired::Refused(3);
+    if sources.len() < n || targets.len() < n {
+        return Err(Refusal::ShortOutput);
     }
     write_pairs(matches, sources, targets);
-    Paired::Wrote(n)
+    Ok(n)
 }
 
-// 1: a length is no multiple of 3, a tree's coordinates are not three to an index, or the entries are not one to a source point.
-fn lengths_differ(
+// The refusals of matching, in their order.
+fn check_lent(
     source: &[f32],
     target: &[f32],
     coords: &[f32],
     indices: &[u32],
     matches: &[u32],
-) -> bool
-    ensures { result ≡ (ragged source.now || ragged target.now || uneven coords.now indices.now || mismatched source.now matches.now) }
+) -> Result<(), Refusal>
+    ensures { outcome_of result ≡ on_matching source.now target.now coords.now indices.now matches.now (gives tt) }
 {
-    if source.len() % 3 != 0 {
-        return true;
-    }
-    if target.len() % 3 != 0 {
-        return true;
-    }
-    if coords.len() != 3 * indices.len() {
-        return true;
-    }
-    if matches.len() != source.len() / 3 {
-        return true;
-    }
-    false
-}
-
-// 2: one of four counts is over 1,048,576.
-fn any_too_many(a: usize, b: usize, c: usize, d: usize) -> bool
-    ensures { result ≡ (too_many a || too_many b || too_many c || too_many d) }
-{
-    if KdTree::MAX_POINTS < a {
-        return true;
-    }
-    if KdTree::MAX_POINTS < b {
-        return true;
-    }
-    if KdTree::MAX_POINTS < c {
-        return true;
-    }
-    KdTree::MAX_POINTS < d
-}
-
-// The refusals of matching, in their order, or that there is none.
-fn refusal(
-    source: &[f32],
-    target: &[f32],
-    coords: &[f32],
-    indices: &[u32],
-    matches: &[u32],
-) -> Matched
-    ensures { matched_of result ≡ on_matching source.now target.now coords.now indices.now matches.now (gives tt) }
-{
-    if lengths_differ(source, target, coords, indices, matches) {
-        return Matched::Refused(1);
+    if source.len() % 3 != 0
+        || target.len() % 3 != 0
+        || coords.len() != 3 * indices.len()
+        || matches.len() != source.len() / 3
+    {
+        return Err(Refusal::UnfitLengths);
     }
     let n = target.len() / 3;
-    if any_too_many(source.len() / 3, n, indices.len(), matches.len()) {
-        return Matched::Refused(2);
+    if KdTree::MAX_POINTS < source.len() / 3
+        || KdTree::MAX_POINTS < n
+        || KdTree::MAX_POINTS < indices.len()
+        || KdTree::MAX_POINTS < matches.len()
+    {
+        return Err(Refusal::TooMany);
     }
-    if source.len() / 3 == 0 {
-        return Matched::Refused(4);
+    if source.len() / 3 == 0 || n == 0 {
+        return Err(Refusal::NothingToMatch);
     }
-    if n == 0 {
-        return Matched::Refused(4);
+    if tree::any_entry_outside(n, matches) || tree::any_index_outside(n, indices) {
+        return Err(Refusal::OutsideIndex);
     }
-    if tree::any_entry_outside(n, matches) {
-        return Matched::Refused(5);
-    }
-    if tree::any_index_outside(n, indices) {
-        return Matched::Refused(5);
-    }
-    Matched::Done
+    Ok(())
 }
 
-// The seed of a source point with its distance, or none.
-fn seed_of(target: &[f32], query: Point3f, seed: u32) -> Nearest
-    requires { (seed ≡ no_match → ⊥) → (seed < 1048576) × (3 * seed + 3 ≤ length target.now) }
-    ensures { result ≡ seed_of target.now query seed }
-{
-    if seed == KdTree::NO_CHILD {
-        return Nearest::Nothing;
-    }
-    Nearest::Found(
-        seed,
-        tree::point_at(target, seed as usize).distance_squared(query),
-    )
-}
-
-// Bounded search on slots of which it is known that they are not refused.
-fn nearest(coords: &[f32], indices: &[u32], query: Point3f, bound_sq: f32, seed: Nearest) -> Nearest
-    requires { (length coords.now ≡ 3 * length indices.now) × (length indices.now ≤ 1048576) }
-    ensures { result ≡ searched coords.now indices.now query bound_sq seed }
-{
-    let Searched::Answer(found) = search::find_nearest_bounded(
-        coords, indices, query, bound_sq, seed,
-    ) else {
-        return Nearest::Nothing;
-    };
-    found
-}
-
-// Entry i of the match list: the index that the search finds for source point i from its seed, or no match.
-fn match_point(
-    source: &[f32],
-    target: &[f32],
-    coords: &[f32],
-    indices: &[u32],
+// What stays while the entries are written.
+#[derive(Drop)]
+struct Matching<'a> {
+    source: PointCloud<'a>,
+    target: PointCloud<'a>,
+    tree: KdTree<'a>,
     bound_sq: f32,
-    matches: &mut [u32],
-    i: usize,
-)
-    requires entry_inside { (i < 1048576) × (i < length matches.old) × (3 * i + 3 ≤ length source.now) }
-    requires slots_fit { (length coords.now ≡ 3 * length indices.now) × (length indices.now ≤ 1048576) }
-    requires seed_inside { (get_or matches.old i 0 ≡ no_match → ⊥) → (get_or matches.old i 0 < 1048576) × (3 * get_or matches.old i 0 + 3 ≤ length target.now) }
-    ensures { matches.new ≡ set matches.old i (match_of (answer_for source.now target.now coords.now indices.now bound_sq i (get_or matches.old i 0))) }
-{
-    let query = tree::point_at(source, i);
-    let seed = seed_of(target, query, matches[i]);
-    let Nearest::Found(index, _) = nearest(coords, indices, query, bound_sq, seed) else {
-        matches[i] = KdTree::NO_CHILD;
-        return;
-    };
-    matches[i] = index;
 }
 
-// Every entry of the match list, in source order.
-fn match_all(
-    source: &[f32],
-    target: &[f32],
-    coords: &[f32],
-    indices: &[u32],
-    bound_sq: f32,
-    matches: &mut [u32],
-)
-    requires { Clear source.now target.now coords.now indices.now matches.old }
-    ensures { matches.new ≡ match_all source.now target.now coords.now indices.now bound_sq matches.old }
-{
-    let points = matches.len();
-    let mut i: usize = 0;
-    while i < points {
-        match_point(source, target, coords, indices, bound_sq, matches, i);
-        i += 1;
+impl<'a> Matching<'a> {
+    // The seed of a source point with its distance, or none.
+    #[tactic(auto, unfolding(crate::specs::Matching::seed_of))]
+    fn seed_of(&self, query: Point3f, seed: u32) -> Nearest
+        requires { (seed ≡ no_match → ⊥) → seed < count self.now.target }
+        ensures { result ≡ seed_of self.now.target query seed }
+    {
+        if seed == KdTree::NO_CHILD {
+            return Nearest::Nothing;
+        }
+        let point = self.target.point(seed as usize);
+        Nearest::Found(seed, point.distance_squared(query))
+    }
+
+    // The entry of source point i: from its seed to the index that the search finds, or no match.
+    #[tactic(auto, unfolding(crate::specs::Matching::answer_for))]
+    fn match_point(&self, i: usize, entry: &mut u32)
+        requires point_inside { i < count self.now.source }
+        requires seed_inside { (entry.old ≡ no_match → ⊥) → entry.old < count self.now.target }
+        ensures { entry.new ≡ match_of (answer_for self.now.source self.now.target self.now.tree.coords self.now.tree.indices self.now.bound_sq i entry.old) }
+    {
+        let query = self.source.point(i);
+        let seed = self.seed_of(query, *entry);
+        let Nearest::Found(index, _) = search::nearest_in(&self.tree, query, self.bound_sq, seed)
+        else {
+            *entry = KdTree::NO_CHILD;
+            return;
+        };
+        *entry = index;
+    }
+
+    // Every entry of the match list, in source order.
+    #[tactic(auto, unfolding(crate::specs::Matching::match_all))]
+    fn match_all(&self, matches: &mut [u32])
+        requires { Clear self.now.source self.now.target self.now.tree.coords self.now.tree.indices matches.old }
+        ensures { matches.new ≡ match_all self.now.source self.now.target self.now.tree.coords self.now.tree.indices self.now.bound_sq matches.old }
+    {
+        for (i, entry) in matches.iter_mut().enumerate() {
+            self.match_point(i, entry);
+        }
     }
 }
 
@@ -276,23 +175,18 @@ pub fn find_correspondences_seeded(
     target: &[f32],
     coords: &[f32],
     indices: &[u32],
-    limit: Limit,
+    limit: Option<f32>,
     matches: &mut [u32],
-) -> Matched
+) -> Result<(), Refusal>
     ensures { Matches source.now target.now coords.now indices.now limit matches.old result matches.new }
 {
-    match refusal(source, target, coords, indices, matches) {
-        Matched::Refused(number) => Matched::Refused(number),
-        Matched::Done => {
-            match_all(
-                source,
-                target,
-                coords,
-                indices,
-                max_distance_sq(limit),
-                matches,
-            );
-            Matched::Done
-        }
-    }
+    check_lent(source, target, coords, indices, matches)?;
+    let matching = Matching {
+        source: PointCloud::new(source),
+        target: PointCloud::new(target),
+        tree: KdTree::new(coords, indices),
+        bound_sq: max_distance_sq(limit),
+    };
+    matching.match_all(matches);
+    Ok(())
 }

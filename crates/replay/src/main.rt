@@ -7,67 +7,63 @@ mod placed;
 
 use std::io;
 use std::io::Read;
-use stream::{Answers, Counts};
+use stream::{Answers, Kind};
 
 // The list's first word.
 const MAGIC: u32 = 0x3254_444b;
 
+// What is written: each count under its name.
+const COUNTS: [(Kind, &str); stream::KINDS] = [
+    (Kind::Cases, "cases"),
+    (Kind::Build, "build"),
+    (Kind::IsTree, "is_tree_of"),
+    (Kind::Nearest, "nearest"),
+    (Kind::Bounded, "bounded"),
+    (Kind::Squares, "k_squares"),
+    (Kind::Roots, "k_roots"),
+    (Kind::Radius, "radius"),
+    (Kind::Limit, "limit"),
+    (Kind::Matching, "matching"),
+    (Kind::Pairs, "pairs"),
+    (Kind::Sums, "sums"),
+    (Kind::Mse, "mse"),
+    (Kind::Scale, "scale"),
+    (Kind::Centred, "centred"),
+    (Kind::Frame, "frame"),
+    (Kind::Local, "local"),
+    (Kind::Values, "values"),
+    (Kind::Indices, "indices"),
+    (Kind::Differ, "differ"),
+];
+
+// The numbers of the cases are the list's and are read here alone: an enum would only repeat the arms.
 fn replay_case(answers: &mut Answers<impl Read>) {
-    stream::tally(&mut answers.counts, stream::CASES);
-    match stream::word(answers) {
+    answers.tally(Kind::Cases);
+    match answers.word() {
         1 => asked::replay(answers),
         2 => paired::replay(answers),
         3 => placed::replay(answers),
         4 => paired::limits(answers),
-        _ => stream::tally(&mut answers.counts, stream::DIFFER),
+        _ => answers.tally(Kind::Differ),
     }
 }
 
-fn replay_cases(cases: usize, answers: &mut Answers<impl Read>) {
-    let mut i: usize = 0;
-    while i < cases {
+fn replay(answers: &mut Answers<impl Read>) {
+    if answers.word() != MAGIC {
+        answers.tally(Kind::Differ);
+    }
+    let cases = answers.up_to(65536);
+    for _ in 0..cases {
         replay_case(answers);
-        i += 1;
     }
-}
-
-fn write_searches(rt: &impl Print, counts: &Counts) -> io::Result<()> {
-    println!(rt; "cases {}", counts[stream::CASES])?;
-    println!(rt; "build {}", counts[stream::BUILD])?;
-    println!(rt; "is_tree_of {}", counts[stream::IS_TREE])?;
-    println!(rt; "nearest {}", counts[stream::NEAREST])?;
-    println!(rt; "bounded {}", counts[stream::BOUNDED])?;
-    println!(rt; "k_squares {}", counts[stream::SQUARES])?;
-    println!(rt; "k_roots {}", counts[stream::ROOTS])?;
-    println!(rt; "radius {}", counts[stream::RADIUS])
-}
-
-fn write_rest(rt: &impl Print, counts: &Counts) -> io::Result<()> {
-    println!(rt; "limit {}", counts[stream::LIMIT])?;
-    println!(rt; "matching {}", counts[stream::MATCHING])?;
-    println!(rt; "pairs {}", counts[stream::PAIRS])?;
-    println!(rt; "sums {}", counts[stream::SUMS])?;
-    println!(rt; "mse {}", counts[stream::MSE])?;
-    println!(rt; "scale {}", counts[stream::SCALE])?;
-    println!(rt; "centred {}", counts[stream::CENTRED])?;
-    println!(rt; "frame {}", counts[stream::FRAME])?;
-    println!(rt; "local {}", counts[stream::LOCAL])?;
-    println!(rt; "values {}", counts[stream::VALUES])?;
-    println!(rt; "indices {}", counts[stream::INDICES])?;
-    println!(rt; "differ {}", counts[stream::DIFFER])
+    answers.end();
 }
 
 fn main(rt: HostRuntime) -> io::Result<()> {
-    let mut answers = Answers {
-        list: rt.reader(),
-        counts: [0; 20],
-    };
-    if stream::word(&mut answers) != MAGIC {
-        stream::tally(&mut answers.counts, stream::DIFFER);
+    let mut answers = Answers::new(rt.reader());
+    replay(&mut answers);
+    for (kind, name) in COUNTS {
+        println!(rt; "{name} {}", answers.count(kind))?;
     }
-    let cases = stream::upto(65536, &mut answers);
-    replay_cases(cases, &mut answers);
-    stream::end(&mut answers);
-    write_searches(&rt, &answers.counts)?;
-    write_rest(&rt, &answers.counts)
+    Ok(())
 }

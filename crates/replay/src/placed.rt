@@ -1,60 +1,53 @@
 // A cloud's scale, the frame at its mean, the frame if it is far from the origin, and its points in that frame.
-use frame::{Centred, CloudScale, Framed, LocalFrame, Scaled};
+use frame::{CloudScale, LocalFrame};
 use std::io::Read;
-use stream::Answers;
+use stream::{Answers, Kind};
 
 fn scale(cloud: &[f32], answers: &mut Answers<impl Read>) {
-    stream::tally(&mut answers.counts, stream::SCALE);
+    answers.tally(Kind::Scale);
     match CloudScale::of(cloud) {
-        Scaled::Scale(s) => {
-            stream::same_point(s.centroid, answers);
-            stream::same_float(s.radius, answers);
+        Ok(scale) => {
+            answers.same_point(scale.centroid);
+            answers.same_float(scale.radius);
         }
-        Scaled::Refused(_) => stream::tally(&mut answers.counts, stream::DIFFER),
+        Err(_) => answers.tally(Kind::Differ),
     }
 }
 
 fn centred(cloud: &[f32], answers: &mut Answers<impl Read>) {
-    stream::tally(&mut answers.counts, stream::CENTRED);
+    answers.tally(Kind::Centred);
     match LocalFrame::centred_on(cloud) {
-        Centred::Frame(f) => stream::same_vector(f.origin, answers),
-        Centred::Refused(_) => stream::tally(&mut answers.counts, stream::DIFFER),
+        Ok(frame) => answers.same_vector(frame.origin),
+        Err(_) => answers.tally(Kind::Differ),
     }
 }
 
-fn locals(f: LocalFrame, cloud: &[f32], answers: &mut Answers<impl Read>) {
-    let n = cloud.len() / 3;
-    let mut i: usize = 0;
-    while i < n {
-        stream::tally(&mut answers.counts, stream::LOCAL);
-        stream::same_point(f.point_to_local(tree::point_at(cloud, i)), answers);
-        i += 1;
+fn locals(frame: LocalFrame, cloud: &[f32], answers: &mut Answers<impl Read>) {
+    for i in 0..cloud.len() / 3 {
+        answers.tally(Kind::Local);
+        answers.same_point(frame.point_to_local(tree::point_at(cloud, i)));
     }
 }
 
 fn framed(cloud: &[f32], answers: &mut Answers<impl Read>) {
-    stream::tally(&mut answers.counts, stream::FRAME);
+    answers.tally(Kind::Frame);
     match LocalFrame::if_far_from_origin(cloud) {
-        Framed::Frame(f) => {
-            stream::same_word(1, answers);
-            stream::same_vector(f.origin, answers);
-            locals(f, cloud, answers);
+        Ok(Some(frame)) => {
+            answers.same_word(1);
+            answers.same_vector(frame.origin);
+            locals(frame, cloud, answers);
         }
-        Framed::NoFrame => stream::same_word(0, answers),
-        Framed::Refused(_) => stream::tally(&mut answers.counts, stream::DIFFER),
+        Ok(None) => answers.same_word(0),
+        Err(_) => answers.tally(Kind::Differ),
     }
 }
 
-fn place(cloud: &mut [f32], answers: &mut Answers<impl Read>) {
-    stream::read_floats(cloud, answers);
+pub fn replay(answers: &mut Answers<impl Read>) {
+    let n = answers.up_to(stream::POINTS);
+    let mut numbers = [0.0; stream::NUMBERS];
+    let cloud = &mut numbers[..3 * n];
+    answers.read_floats(cloud);
     scale(cloud, answers);
     centred(cloud, answers);
     framed(cloud, answers);
-}
-
-pub fn replay(answers: &mut Answers<impl Read>) {
-    let n = stream::upto(stream::POINTS, answers);
-    let mut cloud = [0.0f32; stream::NUMBERS];
-    let e = 3 * n;
-    place(&mut cloud[..e], answers);
 }

@@ -1,7 +1,7 @@
 -- An input of more bytes than the longest that is taken is refused, whatever it goes on with: so it is enough to read one byte more than that.
 use Prim.Native.Nat.{ℕ, ◌+◌, ◌*◌, ◌≤◌, ◌<◌}
 use native.Mathlib.Omega.{arith}
-use mathlib.Core.Path.{◌≡◌, refl, sym, ap, ◌∙◌, subst}
+use mathlib.Core.Path.{◌≡◌, refl, sym, ap, ◌∙◌}
 use mathlib.Core.Bool.{Bool, true, false, not, ◌||◌, cond}
 use mathlib.Core.List.{List}
 use lib.Dec.{ltb, eqb}
@@ -83,7 +83,3 @@ answers-read bytes n {out} {r} {out'} h a = record { front = a; whole = whole }
     whole input e =
         let p : program (take n bytes) ≡ program input = ap program e ∙ enough-read (length bytes) input h in
         record { returns = a.returns ∙ ap length p; written = a.written ∙ ap (λ (text : List ℕ). overwrite text out) p }
-
--- where all were read
-pub answers-all : (bytes : List ℕ) (n : ℕ) {out : List ℕ} {r : ℕ} {out' : List ℕ} → enough ≤ length bytes → length bytes ≤ n → Answers bytes out r out' → AnswersRead bytes n out r out'
-answers-all bytes n {out} {r} {out'} h l a = answers-read bytes n h (subst (λ (B : List ℕ). Answers B out r out') (sym (take_all n bytes l)) a)

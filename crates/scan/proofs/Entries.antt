@@ -19,13 +19,12 @@ use Rattle.tree.proofs.Cloud.{tree_of-is, tree_of-length, indexed-length}
 use Rattle.search.specs.declared.Nearest.{Nearest}
 use Rattle.search.specs.declared.Nearest.TheVariants.{Found, Nothing}
 use Rattle.search.specs.Demands.{near_first, LeastBelow}
-use Rattle.matching.specs.declared.Limit.TheVariants.{Unlimited}
-use Rattle.matching.specs.declared.Matched.{Matched}
-use Rattle.matching.specs.declared.Matched.TheVariants.{Refused, Done}
+use Rattle.std.proofs.Common.{Result, Ok, IsOk, is_ok, None}
+use Rattle.tree.specs.declared.Refusal.{Refusal}
+use Rattle.tree.proofs.Outcomes.{outcome-tells}
 use Rattle.matching.specs.Limit.{bound_of}
 use Rattle.matching.specs.Refusals.{on_matching}
 use Rattle.matching.specs.Matching.{seed_of, match_of, match_all, match_in}
-use Rattle.matching.specs.Cases.{matched_of}
 use Rattle.matching.specs.Promises.{Matches, done}
 use Rattle.scan.specs.Program.{matches_of}
 use Rattle.scan.specs.Promises.{Ready, Unseeded}
@@ -92,35 +91,37 @@ module _ (S T : List Float) (M : List ℕ) (ready : Ready S T M) (unseeded : Uns
       let k : any_index_outside (count T) I ≡ false = indices_inside (count T) (tree_slots T) (λ s m. (tree_of-is T s m).within) in
       simp (eq-eqb _ _ a, eq-eqb _ _ b, eq-eqb _ _ c, eq-eqb _ _ points, le-ltb _ _ d, le-ltb _ _ e, le-ltb _ _ f, le-ltb _ _ g, ne_eqb _ _ h, ne_eqb _ _ i, j, k)
 
-  gives_all : match_in S T (numbers_of (tree_slots T)) (indices_of (tree_slots T)) Unlimited M ≡ gives (matches_of S T)
+  gives_all : match_in S T (numbers_of (tree_slots T)) (indices_of (tree_slots T)) None M ≡ gives (matches_of S T)
   unfolding match_in matches_of
   gives_all =
       rules _
-      ∙ ap (λ (l : List ℕ). gives (match_all S T (numbers_of (tree_slots T)) (indices_of (tree_slots T)) (bound_of Unlimited) l))
+      ∙ ap (λ (l : List ℕ). gives (match_all S T (numbers_of (tree_slots T)) (indices_of (tree_slots T)) (bound_of None) l))
       (unseeded ∙ ap (λ (k : ℕ). replicate k no_match) points)
 
-  module _ {r : Matched} {M' : List ℕ} (m : Matches S T (numbers_of (tree_slots T)) (indices_of (tree_slots T)) Unlimited M r M') where
+  module _ {r : Result (Unit {0}) Refusal} {M' : List ℕ} (m : Matches S T (numbers_of (tree_slots T)) (indices_of (tree_slots T)) None M r M') where
+    tells : r ≡ Ok tt
+    tells = outcome-tells r (Ok tt) (m.returns ∙ ap (returned done) gives_all)
+
+    pub is_matched : IsOk r
+    is_matched = ap is_ok tells
+
     pub entries-are : M' ≡ matches_of S T
     entries-are = m.list_left ∙ ap (left (λ l. l) M) gives_all
-
-    is-done : (r : Matched) → matched_of r ≡ gives tt → r ≡ Done
-    is-done (Refused n) e = cc
-    is-done Done e = refl
 
     entry-inside : (i : ℕ) → i < length M → Inside (count T) (get_or M' i 0)
     unfolding seed_of
     entry-inside i h =
         let q = point_at S i in
-        let a = m.demand2 (is-done r (m.returns ∙ ap (returned done) gives_all)) (slots-of (tree_slots T)) i h in
+        let a = m.demand2 tells (slots-of (tree_slots T)) i h in
         let none : get_or M i 0 ≡ no_match = ap (λ (l : List ℕ). get_or l i 0) unseeded ∙ get_or-replicate (length M) i no_match 0 h in
         let no-seed : seed_of T q (get_or M i 0) ≡ Nothing = simp (eq-eqb _ _ none) in
-        subst (Inside (count T)) (sym a.is_entry) (found_inside T q (bound_of Unlimited) a.answer (a.demand.unseeded no-seed))
+        subst (Inside (count T)) (sym a.is_entry) (found_inside T q (bound_of None) a.answer (a.demand.unseeded no-seed))
 
     pub entries-inside : length M' ≡ length M → any_entry_outside (count T) M' ≡ false
     entries-inside e = all-inside (count T) M' (λ i h. entry-inside i (subst (λ (k : ℕ). i < k) e h))
 
   -- the slots as they are lent
-  pub in_tree : {C : List Float} {I : List ℕ} {r : Matched} {M' : List ℕ} → C ≡ numbers_of (tree_slots T) → I ≡ indices_of (tree_slots T)
-      → Matches S T C I Unlimited M r M' → Matches S T (numbers_of (tree_slots T)) (indices_of (tree_slots T)) Unlimited M r M'
+  pub in_tree : {C : List Float} {I : List ℕ} {r : Result (Unit {0}) Refusal} {M' : List ℕ} → C ≡ numbers_of (tree_slots T) → I ≡ indices_of (tree_slots T)
+      → Matches S T C I None M r M' → Matches S T (numbers_of (tree_slots T)) (indices_of (tree_slots T)) None M r M'
   in_tree {C} {I} {r} {M'} c i m =
-      subst (λ (J : List ℕ). Matches S T (numbers_of (tree_slots T)) J Unlimited M r M') i (subst (λ (D : List Float). Matches S T D I Unlimited M r M') c m)
+      subst (λ (J : List ℕ). Matches S T (numbers_of (tree_slots T)) J None M r M') i (subst (λ (D : List Float). Matches S T D I None M r M') c m)

@@ -1,17 +1,17 @@
 -- Laws of the lines: how long each is, and the lines of pairs one after the other.
-use Prim.Native.Nat.{ℕ, suc, ◌+◌, ◌*◌, ◌≤◌, ◌<◌}
+use Prim.Native.Nat.{ℕ, suc, ◌*◌, ◌≤◌}
 use native.Mathlib.Omega.{arith}
-use mathlib.Core.Path.{◌≡◌, refl, sym, ap, ap₂, ◌∙◌, subst}
+use mathlib.Core.Path.{◌≡◌, refl, sym, ap, ap₂, subst}
 use mathlib.Core.List.{List, [], ◌∷◌, ◌++◌}
-use lib.ListN.{length, get_or, drop, length-append}
-use lib.Seq.{drop-cons}
+use lib.ListN.{length, length-append}
 use Rattle.text.specs.Text.{decimal}
 use Rattle.text.proofs.Digits.{decimal-length}
 use Rattle.matching.specs.Pairs.{Pair}
 use Rattle.scan.specs.Program.{count_line, pair_line, pair_lines}
-use Rattle.text.specs.Puts.{Puts}
+use Rattle.text.specs.Puts.{Writes}
+use Rattle.text.specs.declared.Writer.{Writer}
 use Rattle.scan.specs.Promises.{side}
-use Rattle.text.proofs.Stores.{drop_past, Left, left-none, left-some}
+use Rattle.text.proofs.Stores.{Left, left-none, left-some}
 
 pub count_line-length : (n : ℕ) → length (count_line n) ≤ 17
 unfolding count_line
@@ -29,22 +29,15 @@ pair_lines-length (p ∷ ps) = omega (arith, length-append (pair_line p.source p
 
 -- ---- the lines of pairs, one after the other
 
-module _ (S T : List ℕ) (i : ℕ) where
-  lines_from : i < length S → i < length T
-      → pair_lines (side (drop i S) (drop i T)) ≡ pair_line (get_or S i 0) (get_or T i 0) ++ pair_lines (side (drop (i + 1) S) (drop (i + 1) T))
+module _ {whole : List ℕ} {w₀ w : Writer} where
+  pub one-pair : {S T : List ℕ} {i m : ℕ} {is ms : List ℕ} → S ≡ i ∷ is → T ≡ m ∷ ms → Left whole w₀ (pair_lines (side S T)) w → {w' : Writer}
+      → Writes (pair_line i m) w w' → Left whole w₀ (pair_lines (side is ms)) w'
   unfolding pair_lines side
-  lines_from h k =
-      let e : suc i ≡ i + 1 = omega arith in
-      ap₂ (λ (s t : List ℕ). pair_lines (side s t)) (drop-cons S i 0 h) (drop-cons T i 0 k)
-      ∙ ap (λ (j : ℕ). pair_line (get_or S i 0) (get_or T i 0) ++ pair_lines (side (drop j S) (drop j T))) e
+  one-pair e f l p = left-some (subst (λ (t : List ℕ). Left whole w₀ t w) (ap₂ (λ (s t : List ℕ). pair_lines (side s t)) e f) l) p
 
-  pub one-pair : i < length S → i < length T → {text₀ : List ℕ} {at₀ : ℕ} {out₀ : List ℕ} {to : ℕ} {out : List ℕ} → Left text₀ at₀ out₀ (pair_lines (side (drop i S) (drop i T))) to out → {r : ℕ} {out' : List ℕ}
-      → Puts (pair_line (get_or S i 0) (get_or T i 0)) to out r out' → Left text₀ at₀ out₀ (pair_lines (side (drop (i + 1) S) (drop (i + 1) T))) r out'
-  one-pair h k {text₀} {at₀} {out₀} {to} {out} l p = left-some (subst (λ (t : List ℕ). Left text₀ at₀ out₀ t to out) (lines_from h k) l) p
-
-  pub no-pair : length S ≤ i → {text₀ : List ℕ} {at₀ : ℕ} {out₀ : List ℕ} {to : ℕ} {out : List ℕ} → Left text₀ at₀ out₀ (pair_lines (side (drop i S) (drop i T))) to out → to ≤ length out₀ → Puts text₀ at₀ out₀ to out
+  pub no-pair : {S : List ℕ} (T : List ℕ) → S ≡ [] → Left whole w₀ (pair_lines (side S T)) w → w.len ≤ length w.out.now → Writes whole w₀ w
   unfolding pair_lines side
-  no-pair h {text₀} {at₀} {out₀} {to} {out} l k = left-none (subst (λ (s : List ℕ). Left text₀ at₀ out₀ (pair_lines (side s (drop i T))) to out) (drop_past i S h) l) k
+  no-pair T e l k = left-none (subst (λ (s : List ℕ). Left whole w₀ (pair_lines (side s T)) w) e l) k
 
 pub side-length : (S T : List ℕ) → length S ≡ length T → length (side S T) ≡ length S
 unfolding side

@@ -10,22 +10,20 @@ use lib.Seq.{take_at}
 use lib.Ieee.{Float}
 use borrow.Author.Tests.{eq-eqb, le-ltb}
 use Rattle.tree.specs.Refuse.{gives, returned, left, count, no_match, any_entry_outside}
-use Rattle.matching.specs.declared.Paired.{Paired}
-use Rattle.matching.specs.declared.Paired.TheVariants.{Wrote}
-use Rattle.matching.specs.declared.Paired as P
+use Rattle.std.proofs.Common.{Result, Ok, IsOk, is_ok}
+use Rattle.tree.specs.Refusal.{outcome_of}
+use Rattle.tree.specs.declared.Refusal.{Refusal}
+use Rattle.tree.proofs.Outcomes.{outcome-tells}
 use Rattle.matching.specs.Pairs.{Pair, pair, pairs_from, pairs, sources_of, targets_of, written, pairs_in}
-use Rattle.matching.specs.Cases.{paired_of}
 use Rattle.matching.specs.Promises.{ListsPairs}
 use Rattle.sums.specs.declared.CorrespondenceStats.{CorrespondenceStats}
-use Rattle.sums.specs.declared.Collected.{Collected}
-use Rattle.sums.specs.declared.Collected as C
-use Rattle.sums.specs.Cases.{collected}
 use Rattle.sums.specs.Entries.{sums_in}
 use Rattle.sums.specs.Sums.{sums}
 use Rattle.sums.specs.Stats.{mse}
 use Rattle.scan.specs.Input.{most_read}
 use Rattle.scan.specs.Program.{report_lines, report}
-use Rattle.text.specs.Puts.{Puts}
+use Rattle.text.specs.Puts.{Writes}
+use Rattle.text.specs.declared.Writer.{Writer}
 use Rattle.scan.specs.Promises.{side, Ready}
 
 -- ---- the pair list
@@ -57,13 +55,16 @@ module _ (M : List ℕ) (few : length M ≤ most_read) where
       let c : length (pairs M) ≤ length B = omega (arith, pairs-length M) in
       simp (le-ltb _ _ a, le-ltb _ _ b, le-ltb _ _ c)
 
-  module _ {A B : List ℕ} {r : Paired} {A' B' : List ℕ} (l : ListsPairs M A B r A' B') (room : length A ≡ 1024) (room' : length B ≡ 1024) where
-    pub pairs-not-refused : {n : ℕ} → r ≡ P.TheVariants.Refused n → ⊥
-    pairs-not-refused p = let g = sym (ap paired_of p) ∙ l.returns ∙ ap (returned (λ w. w.number)) (listed A B room room') in let z : ◌≡◌ {A = ℕ} 0 1 = cc in omega arith
+  module _ {A B : List ℕ} {r : Result ℕ Refusal} {A' B' : List ℕ} (l : ListsPairs M A B r A' B') (room : length A ≡ 1024) (room' : length B ≡ 1024) where
+    tells : r ≡ Ok (length (pairs M))
+    tells = outcome-tells r (Ok _) (l.returns ∙ ap (returned (λ w. w.number)) (listed A B room room'))
 
-    module _ {n : ℕ} (p : r ≡ Wrote n) where
-      pub pair-number : n ≡ length (pairs M)
-      pair-number = let g = sym (ap paired_of p) ∙ l.returns ∙ ap (returned (λ w. w.number)) (listed A B room room') in cc
+    pub is_listed : IsOk r
+    is_listed = ap is_ok tells
+
+    module _ {n : ℕ} (p : r ≡ Ok n) where
+      pair-number : n ≡ length (pairs M)
+      pair-number = let g = sym p ∙ tells in cc
 
       pub pairs-few : n ≤ most_read
       pairs-few = omega (arith, pair-number, pairs-length M)
@@ -101,16 +102,18 @@ module _ (S T : List Float) (M : List ℕ) (ready : Ready S T M) (inside : any_e
       let g : length M ≤ 1048576 = omega (arith, ready.few_sources) in
       simp (eq-eqb _ _ a, eq-eqb _ _ b, eq-eqb _ _ p, le-ltb _ _ d, le-ltb _ _ e, le-ltb _ _ g, inside)
 
-  module _ {r : Collected} (e : collected r ≡ sums_in S T M) where
-    pub sums-not-refused : {n : ℕ} → r ≡ C.TheVariants.Refused n → ⊥
-    sums-not-refused p = let g = sym (ap collected p) ∙ e ∙ summed in let z : ◌≡◌ {A = ℕ} 0 1 = cc in omega arith
+  module _ (r : Result CorrespondenceStats Refusal) (e : outcome_of r ≡ sums_in S T M) where
+    adds : r ≡ Ok (sums S T M)
+    adds = outcome-tells r (Ok _) (e ∙ summed)
 
-    pub sums-are : {s : CorrespondenceStats} → r ≡ C.TheVariants.Sums s → s ≡ sums S T M
-    sums-are p = let g = sym (ap collected p) ∙ e ∙ summed in cc
+    pub is_summed : IsOk r
+    is_summed = ap is_ok adds
+
+    pub sums-are : {s : CorrespondenceStats} → r ≡ Ok s → s ≡ sums S T M
+    sums-are p = let g = sym p ∙ adds in cc
 
 -- the lines of the pair list and of the MSE are the report
-pub report-is : (S T : List Float) (M : List ℕ) {ps : List Pair} {x : Float} {out : List ℕ} {r : ℕ} {out' : List ℕ} → ps ≡ pairs M → x ≡ mse (sums S T M)
-    → Puts (report_lines ps x) 0 out r out' → Puts (report S T M) 0 out r out'
+pub report-is : (S T : List Float) (M : List ℕ) {ps : List Pair} {x : Float} {w w' : Writer} → ps ≡ pairs M → x ≡ mse (sums S T M) → Writes (report_lines ps x) w w' → Writes (report S T M) w w'
 unfolding report
-report-is S T M {ps} {x} {out} {r} {out'} e f p =
-    subst (λ (y : Float). Puts (report_lines (pairs M) y) 0 out r out') f (subst (λ (qs : List Pair). Puts (report_lines qs x) 0 out r out') e p)
+report-is S T M {ps} {x} {w} {w'} e f p =
+    subst (λ (y : Float). Writes (report_lines (pairs M) y) w w') f (subst (λ (qs : List Pair). Writes (report_lines qs x) w w') e p)

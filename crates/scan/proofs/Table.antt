@@ -9,7 +9,6 @@ use Rattle.bits.specs.Convert.{widen, narrow}
 use Rattle.bits.specs.Finite.{finite}
 use Rattle.bits.specs.Key.{key}
 use Rattle.space.specs.Distance.{apart, left_is_near, distance_squared}
-use Rattle.tree.specs.Refuse.{refused, gives}
 use Rattle.tree.specs.Slots.{rank, slots, numbers_of, indices_of}
 use Rattle.tree.specs.Sort.{sort, insert}
 use Rattle.tree.specs.Part.{laid, part_of, lent}
@@ -25,8 +24,6 @@ use Rattle.sums.specs.Stats.{add_pair, merge_sums, mse}
 use Rattle.sums.specs.Sums.{add_entry, add_entries, cut, add_runs, sums_by, sums}
 use Rattle.scan.specs.Input.{word, numbers, header}
 use Rattle.text.specs.Text.{letter, digits, places, decimal, hex8}
-use Rattle.scan.specs.declared.input.Header as H
-use Rattle.scan.specs.Cases.{header_of}
 use Rattle.scan.specs.Promises.{side, Answers}
 use Rattle.scan.specs.Program.{matches_of, count_line, pair_line, pair_lines, mse_line, report_lines, report, refusal, answered, program}
 
@@ -104,15 +101,9 @@ record Table : Type 0 where
   no-seeds : program (head 1 16 2 28 ++ point 0x3f00_0000 0 0 ++ point #1 0 0 ++ point 0 0 0) ≡ pairs_text 49 ++ (48 ∷ 32 ∷ 49 ∷ 10 ∷ []) ++ mse_text 51 101 56
   -- what the function promises: how many bytes, and what is beyond them
   promised : Answers [] (7 ∷ 7 ∷ 7 ∷ 7 ∷ 7 ∷ 7 ∷ 7 ∷ 7 ∷ 7 ∷ 7 ∷ 7 ∷ 8 ∷ []) 10 (refused_text 49 ++ 7 ∷ 8 ∷ [])
-  -- the cases of the header, and sources and targets side by side
-  cases : (header_of (H.TheVariants.Points 1 2) ≡ gives (record { source = 1; target = 2 })) × (header_of (H.TheVariants.Refused 4) ≡ refused 4)
+  -- sources and targets side by side
   sides : side (0 ∷ 2 ∷ []) (5 ∷ 6 ∷ 7 ∷ []) ≡ pair 0 5 ∷ pair 2 6 ∷ []
-  -- numbers as text: 0, 9, 10, 1024, the largest u32; hexadecimal 0012cdef
-  nought-written : decimal 0 ≡ 48 ∷ []
-  nine-written : decimal 9 ≡ 57 ∷ []
-  ten-written : decimal 10 ≡ 49 ∷ 48 ∷ []
-  most-written : decimal 1024 ≡ 49 ∷ 48 ∷ 50 ∷ 52 ∷ []
-  largest-written : decimal 4294967295 ≡ 52 ∷ 50 ∷ 57 ∷ 52 ∷ 57 ∷ 54 ∷ 55 ∷ 50 ∷ 57 ∷ 53 ∷ []
+  -- hexadecimal 0012cdef
   hex-written : hex8 0x0012_cdef ≡ 48 ∷ 48 ∷ 49 ∷ 50 ∷ 99 ∷ 100 ∷ 101 ∷ 102 ∷ []
 
 table : Table
@@ -136,12 +127,6 @@ table =
       in_order = refl;
       no-seeds = refl;
       promised = record { returns = refl; written = refl };
-      cases = (refl, refl);
       sides = refl;
-      nought-written = refl;
-      nine-written = refl;
-      ten-written = refl;
-      most-written = refl;
-      largest-written = refl;
       hex-written = refl;
     }

@@ -13,9 +13,10 @@ use Rattle.tree.specs.Part.{laid}
 use Rattle.tree.specs.Cloud.{tree_of}
 use Rattle.tree.proofs.Slots.{numbers-length, indices-length}
 use Rattle.tree.proofs.Cloud.{tree_of-length, indexed-length}
-use Rattle.build.specs.declared.Built.{Built}
-use Rattle.build.specs.declared.Built.TheVariants.{Count, Refused}
-use Rattle.build.specs.Entries.{written, building, outcome_of, Builds}
+use Rattle.std.proofs.Common.{Result, Ok}
+use Rattle.tree.specs.declared.Refusal.{Refusal}
+use Rattle.tree.proofs.Outcomes.{outcome-tells}
+use Rattle.build.specs.Entries.{written, building, Builds}
 use Rattle.scan.specs.Input.{most_read}
 
 -- the slots of the tree
@@ -31,14 +32,14 @@ module _ (T : List Float) (whole : length T ≡ 3 * count T) (few : count T ≤ 
       let d : count T ≤ length is = omega arith in
       simp (eq-eqb _ _ a, le-ltb _ _ b, le-ltb _ _ c, le-ltb _ _ d)
 
-  module _ {cs : List Float} {is : List ℕ} {r : Built} {cs' : List Float} {is' : List ℕ} (b : Builds T cs is r cs' is') (room : length cs ≡ 3072) (room' : length is ≡ 1024) where
-    pub not-refused : {n : ℕ} → r ≡ Refused n → ⊥
-    not-refused p = let g = sym (ap outcome_of p) ∙ b.answer ∙ ap (returned (λ w. w.slots)) (built cs is room room') in let z : ◌≡◌ {A = ℕ} 0 1 = cc in omega arith
+  module _ {cs : List Float} {is : List ℕ} {r : Result ℕ Refusal} {cs' : List Float} {is' : List ℕ} (b : Builds T cs is r cs' is') (room : length cs ≡ 3072) (room' : length is ≡ 1024) where
+    tells : r ≡ Ok (length (tree_slots T))
+    unfolding written
+    tells = outcome-tells r (Ok _) (b.answer ∙ ap (returned (λ w. w.slots)) (built cs is room room'))
 
-    module _ {m : ℕ} (p : r ≡ Count m) where
-      pub slot-number : m ≡ length (tree_slots T)
-      unfolding written
-      slot-number = let g = sym (ap outcome_of p) ∙ b.answer ∙ ap (returned (λ w. w.slots)) (built cs is room room') in cc
+    module _ {m : ℕ} (p : r ≡ Ok m) where
+      slot-number : m ≡ length (tree_slots T)
+      slot-number = let g = sym p ∙ tells in cc
 
       pub slots-few : m ≤ most_read
       slots-few = omega (arith, slot-number, tree_of-length T, indexed-length T)

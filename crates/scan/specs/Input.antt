@@ -4,6 +4,7 @@ use Rattle.std.specs.Prelude.{ℕ, zero, suc, ◌+◌, ◌*◌, ◌^◌, not, �
 use Rattle.std.specs.Float.{binary32}
 use Rattle.std.specs.Float.Ieee.{of_bits}
 use Rattle.tree.specs.Refuse.{Outcome, refuse, gives}
+use Rattle.scan.specs.declared.input.Counts.{Counts}
 
 -- the u32 whose four bytes begin at place i, the lowest first
 unfoldable pub word : List ℕ → ℕ → ℕ
@@ -18,11 +19,6 @@ numbers bytes i (suc n) = of_bits binary32 (word bytes i) ∷ numbers bytes (i +
 -- "a count over 1,024"
 abbrev pub most_read : ℕ
 most_read = 1024
-
--- points of the source and of the target
-pub record Counts : Type 0 where
-  pub source : ℕ
-  pub target : ℕ
 
 -- "It checks in this order: header short, 1; a count over 1,024, 2; a zero count, 4; offsets other than 16 and 16 + 12·source count, or another total length, 1."
 unfoldable pub header : List ℕ → Outcome Counts

@@ -1,5 +1,4 @@
 pub mod Input
 pub mod Words
 pub mod Program
-pub mod Cases
 pub mod Promises

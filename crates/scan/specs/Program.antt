@@ -1,18 +1,18 @@
 -- Document 01, "The matching program": from the bytes of standard input to the bytes of standard output. Definitions only.
-use Rattle.std.specs.Prelude.{ℕ, List, [], ◌∷◌, ◌++◌, length, replicate, Float}
+use Rattle.std.specs.Prelude.{ℕ, List, [], ◌∷◌, ◌++◌, length, replicate, Float, None}
 use Rattle.std.specs.Float.{binary32}
 use Rattle.std.specs.Float.Ieee.{to_bits}
 use Rattle.tree.specs.Refuse.{Outcome, refused, gives, count, no_match}
 use Rattle.tree.specs.Slots.{numbers_of, indices_of}
 use Rattle.tree.specs.Part.{laid}
 use Rattle.tree.specs.Cloud.{tree_of}
-use Rattle.matching.specs.declared.Limit.TheVariants.{Unlimited}
 use Rattle.matching.specs.Limit.{bound_of}
 use Rattle.matching.specs.Matching.{match_all}
 use Rattle.matching.specs.Pairs.{Pair, pairs}
 use Rattle.sums.specs.Stats.{mse}
 use Rattle.sums.specs.Sums.{sums}
-use Rattle.scan.specs.Input.{Counts, header, source_of, target_of}
+use Rattle.scan.specs.declared.input.Counts.{Counts}
+use Rattle.scan.specs.Input.{header, source_of, target_of}
 use Rattle.text.specs.Text.{decimal, hex8}
 use Rattle.scan.specs.Words.{pairs_word, mse_word, refused_word, blank, line_end}
 
@@ -21,7 +21,7 @@ unfoldable pub matches_of : List Float → List Float → List ℕ
 unfolding tree_of laid numbers_of indices_of bound_of match_all
 matches_of source target =
     let tree = laid (tree_of target) in
-    match_all source target (numbers_of tree) (indices_of tree) (bound_of Unlimited) (replicate (count source) no_match)
+    match_all source target (numbers_of tree) (indices_of tree) (bound_of None) (replicate (count source) no_match)
 
 -- `pairs N`
 unfoldable pub count_line : ℕ → List ℕ

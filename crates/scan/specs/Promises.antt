@@ -2,8 +2,7 @@
 use Rattle.std.specs.Prelude.{◌≡◌, ℕ, ◌+◌, ◌*◌, ◌≤◌, ◌<◌, List, [], ◌∷◌, length, take, replicate, Float}
 use Rattle.tree.specs.Refuse.{count, no_match, overwrite}
 use Rattle.matching.specs.Pairs.{Pair, pair}
-use Rattle.scan.specs.declared.input.Header.{Header}
-use Rattle.scan.specs.declared.input.Header.TheVariants.{Refused, Points}
+use Rattle.scan.specs.declared.input.Counts.{Counts}
 use Rattle.scan.specs.Input.{most_read}
 use Rattle.scan.specs.Program.{program}
 
@@ -14,17 +13,12 @@ side (i ∷ is) [] = []
 side (i ∷ is) (m ∷ ms) = pair i m ∷ side is ms
 
 -- what the header's checks leave: both counts are from 1 to 1,024, and the input is as long as they say
-pub record Counted (sources targets bytes : ℕ) : Type 0 where
-  pub some_sources : 0 < sources
-  pub few_sources : sources ≤ most_read
-  pub some_targets : 0 < targets
-  pub few_targets : targets ≤ most_read
-  pub whole : bytes ≡ 16 + 12 * sources + 12 * targets
-
--- and what is known of the points that a header names
-abbrev pub Checked : Header → ℕ → Type 0
-Checked (Refused n) bytes = Unit {0}
-Checked (Points s t) bytes = Counted s t bytes
+pub record Counted (n : Counts) (bytes : ℕ) : Type 0 where
+  pub some_sources : 0 < n.source
+  pub few_sources : n.source ≤ most_read
+  pub some_targets : 0 < n.target
+  pub few_targets : n.target ≤ most_read
+  pub whole : bytes ≡ 16 + 12 * n.source + 12 * n.target
 
 -- two clouds, and one match entry for each source point
 pub record Ready (source target : List Float) (matches : List ℕ) : Type 0 where

@@ -6,14 +6,13 @@ mod lines;
 
 ghost use Rattle.std.specs.Prelude.{◌≡◌, false, ◌+◌, ◌*◌, ◌≤◌, length};
 ghost use Rattle.tree.specs.Refuse.{gives, count, any_entry_outside};
-ghost use Rattle.text.specs.Puts.{Puts};
-ghost use Rattle.scan.specs.Program.{matches_of, report, answered};
+ghost use Rattle.text.specs.Puts.{HasRoom, Writes};
+ghost use Rattle.scan.specs.Program.{matches_of, report, answered, program};
 ghost use Rattle.scan.specs.Promises.{Counted, Ready, Unseeded, Answers, AnswersRead};
 
-use build::Built;
-use input::Header;
-use matching::{Limit, Paired};
-use sums::{Collected, CorrespondenceStats};
+use input::Counts;
+use sums::CorrespondenceStats;
+use text::Writer;
 use tree::KdTree;
 
 // One byte more than the longest input has.
@@ -29,78 +28,79 @@ fn match_clouds(source: &[f32], target: &[f32], matches: &mut [u32])
 {
     let mut coords = [0.0f32; 3072];
     let mut indices = [0u32; 1024];
-    let Built::Count(m) = build::build(target, &mut coords, &mut indices) else {
-        return;
-    };
+    let m = build::build(target, &mut coords, &mut indices).unwrap();
     let k = 3 * m;
     matching::find_correspondences_seeded(
         source,
         target,
         &coords[..k],
         &indices[..m],
-        Limit::Unlimited,
+        None,
         matches,
-    );
+    ).unwrap();
 }
 
 // The pairs and the mean squared error of a match list.
-fn write_report(source: &[f32], target: &[f32], matches: &[u32], out: &mut [u8]) -> usize
-    requires { Ready source.now target.now matches.now × (any_entry_outside (count target.now) matches.now ≡ false) × (22558 ≤ length out.old) }
-    ensures { Puts (report source.now target.now matches.now) 0 out.old result out.new }
+fn write_report(source: &[f32], target: &[f32], matches: &[u32], w: &mut Writer)
+    requires { Ready source.now target.now matches.now × (any_entry_outside (count target.now) matches.now ≡ false) × HasRoom 22558 w.old }
+    ensures { Writes (report source.now target.now matches.now) w.old w.new }
 {
     let mut sources = [0u32; 1024];
     let mut targets = [0u32; 1024];
-    let Paired::Wrote(n) = matching::correspondence_pairs(matches, &mut sources, &mut targets)
-    else {
-        return 0;
-    };
-    let Collected::Sums(stats) = CorrespondenceStats::collect(source, target, matches) else {
-        return 0;
-    };
-    lines::put_report(out, &sources[..n], &targets[..n], stats.mse())
+    let n = matching::correspondence_pairs(matches, &mut sources, &mut targets).unwrap();
+    let stats = CorrespondenceStats::collect(source, target, matches).unwrap();
+    lines::put_report(w, &sources[..n], &targets[..n], stats.mse());
 }
 
-fn match_and_write(source: &[f32], target: &[f32], matches: &mut [u32], out: &mut [u8]) -> usize
-    requires { Ready source.now target.now matches.old × Unseeded matches.old × (22558 ≤ length out.old) }
-    ensures { Puts (report source.now target.now (matches_of source.now target.now)) 0 out.old result out.new }
+fn match_and_write(source: &[f32], target: &[f32], matches: &mut [u32], w: &mut Writer)
+    requires { Ready source.now target.now matches.old × Unseeded matches.old × HasRoom 22558 w.old }
+    ensures { Writes (report source.now target.now (matches_of source.now target.now)) w.old w.new }
 {
     match_clouds(source, target, matches);
-    write_report(source, target, matches, out)
+    write_report(source, target, matches, w);
 }
 
 // The report on an input whose header is right.
-fn report(bytes: &[u8], sources: usize, targets: usize, out: &mut [u8]) -> usize
-    requires { Counted sources targets (length bytes.now) × (22558 ≤ length out.old) }
-    ensures { Puts (answered bytes.now (gives (record { source = sources; target = targets }))) 0 out.old result out.new }
+fn report(bytes: &[u8], counts: Counts, w: &mut Writer)
+    requires { Counted counts (length bytes.now) × HasRoom 22558 w.old }
+    ensures { Writes (answered bytes.now (gives counts)) w.old w.new }
 {
     let mut source = [0.0f32; 3072];
     let mut target = [0.0f32; 3072];
     let mut matches = [KdTree::NO_CHILD; 1024];
-    let s = 3 * sources;
-    let t = 3 * targets;
-    input::read_numbers(bytes, 16, s, &mut source);
-    input::read_numbers(bytes, 16 + 12 * sources, t, &mut target);
-    match_and_write(&source[..s], &target[..t], &mut matches[..sources], out)
+    let end = 16 + 12 * counts.source;
+    input::read_numbers(&bytes[16..end], &mut source);
+    input::read_numbers(&bytes[end..], &mut target);
+    match_and_write(
+        &source[..3 * counts.source],
+        &target[..3 * counts.target],
+        &mut matches[..counts.source],
+        w,
+    );
+}
+
+fn write_answer(bytes: &[u8], w: &mut Writer)
+    requires { HasRoom 22558 w.old }
+    ensures { Writes (program bytes.now) w.old w.new }
+{
+    match input::read_header(bytes) {
+        Ok(counts) => report(bytes, counts, w),
+        Err(refusal) => lines::put_refusal(w, refusal),
+    }
 }
 
 // What the program writes, from what it read: the bytes go to the front of the lent ones, and their number is returned.
 pub fn answer(bytes: &[u8], out: &mut [u8; OUT]) -> usize
     ensures { Answers bytes.now out.old result out.new }
 {
-    match input::read_header(bytes) {
-        Header::Refused(number) => lines::put_refusal(out, number),
-        Header::Points(sources, targets) => report(bytes, sources, targets, out),
-    }
+    let mut w = Writer::new(out);
+    write_answer(bytes, &mut w);
+    w.len()
 }
 
 // The same from the first n of the lent bytes, into which an input was read: one that filled them may go on, and its answer is known all the same.
 pub fn answer_read(bytes: &[u8; IN], n: usize, out: &mut [u8; OUT]) -> usize
     ensures { AnswersRead bytes.now n out.old result out.new }
 {
-    let all: &[u8] = bytes;
-    if n < all.len() {
-        answer(&all[..n], out)
-    } else {
-        answer(all, out)
-    }
+    answer(&bytes[..n.min(IN)], out)
 }

@@ -2,6 +2,7 @@
 #![tactic(auto)]
 
 use std::io;
+use trial::Sequence;
 
 // Writes what the program would write.
 fn show(rt: &impl Print, bytes: &[u8]) -> io::Result<()> {
@@ -12,31 +13,17 @@ fn show(rt: &impl Print, bytes: &[u8]) -> io::Result<()> {
 
 // The same for the first n bytes.
 fn show_front(rt: &impl Print, bytes: &[u8], n: usize) -> io::Result<()> {
-    if n <= bytes.len() {
-        show(rt, &bytes[..n])?;
+    if let Some(front) = bytes.get(..n) {
+        show(rt, front)?;
     }
     Ok(())
 }
 
-// A u32 at a place, its lowest byte first.
-fn put_word(bytes: &mut [u8], at: usize, n: u32) {
-    if bytes.len() < 4 {
-        return;
+// Words one after the other, the lowest byte of each first.
+fn put_words(bytes: &mut [u8], words: &[u32]) {
+    for (place, word) in bytes.chunks_exact_mut(4).zip(words) {
+        place.copy_from_slice(&word.to_le_bytes());
     }
-    if bytes.len() - 4 < at {
-        return;
-    }
-    bytes[at] = (n % 256) as u8;
-    bytes[at + 1] = (n / 256 % 256) as u8;
-    bytes[at + 2] = (n / 65536 % 256) as u8;
-    bytes[at + 3] = (n / 16777216) as u8;
-}
-
-fn put_header(bytes: &mut [u8], sources: u32, source_at: u32, targets: u32, target_at: u32) {
-    put_word(bytes, 0, sources);
-    put_word(bytes, 4, source_at);
-    put_word(bytes, 8, targets);
-    put_word(bytes, 12, target_at);
 }
 
 // A header alone.
@@ -48,29 +35,22 @@ fn show_header(
     target_at: u32,
 ) -> io::Result<()> {
     let mut bytes = [0u8; 16];
-    put_header(&mut bytes, sources, source_at, targets, target_at);
+    put_words(&mut bytes, &[sources, source_at, targets, target_at]);
     show(rt, &bytes)
 }
 
 // One point in each cloud: the two offsets, and how many of 41 bytes are read.
 fn show_points(rt: &impl Print, source_at: u32, target_at: u32, read: usize) -> io::Result<()> {
     let mut bytes = [0u8; 41];
-    put_header(&mut bytes, 1, source_at, 1, target_at);
+    put_words(&mut bytes, &[1, source_at, 1, target_at]);
     show_front(rt, &bytes, read)
 }
 
 // One point in each cloud, by the bits of its first coordinate.
 fn show_pair(rt: &impl Print, source: u32, target: u32) -> io::Result<()> {
     let mut bytes = [0u8; 40];
-    put_header(&mut bytes, 1, 16, 1, 28);
-    put_word(&mut bytes, 16, source);
-    put_word(&mut bytes, 28, target);
+    put_words(&mut bytes, &[1, 16, 1, 28, source, 0, 0, target]);
     show(rt, &bytes)
-}
-
-// The next number of a sequence.
-fn next(s: u32) -> u32 {
-    ((s as u64 * 1664525 + 1013904223) % 4294967296) as u32
 }
 
 // A coordinate of the sequence: a sign, one of 16 exponents and all digits of a fraction; one in 512 is a NaN, and one in 512 an infinity.
@@ -82,23 +62,21 @@ fn coordinate(s: u32) -> u32 {
     }
 }
 
+// Numbers behind the header, as far as there is room.
 fn put_numbers(bytes: &mut [u8], seed: u32) {
-    let mut s = seed;
-    let mut at: usize = 16;
-    while at < bytes.len() {
-        s = next(s);
-        put_word(bytes, at, coordinate(s));
-        if bytes.len() - at < 4 {
-            return;
-        }
-        at += 4;
+    for (place, s) in bytes
+        .chunks_exact_mut(4)
+        .skip(4)
+        .zip(Sequence::from_seed(seed))
+    {
+        place.copy_from_slice(&coordinate(s).to_le_bytes());
     }
 }
 
 // The longest input, and one byte more.
 fn show_longest(rt: &impl Print) -> io::Result<()> {
     let mut bytes = [0u8; scan::IN];
-    put_header(&mut bytes, 1024, 16, 1024, 12304);
+    put_words(&mut bytes, &[1024, 16, 1024, 12304]);
     put_numbers(&mut bytes, 1);
     show_front(rt, &bytes, 24592)?;
     show(rt, &bytes)

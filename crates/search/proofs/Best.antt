@@ -1,16 +1,20 @@
 -- The best so far: a seed that is kept or dropped, and that what is not entered is not entered later. Assumes nothing.
-use mathlib.Core.Path.{◌≡◌, refl, sym, ap, ◌∙◌, subst}
+use mathlib.Core.Path.{◌≡◌, refl, sym, ◌∙◌, subst}
 use mathlib.Core.Bool.{Bool, true, false, cond, true≢false}
+use mathlib.Core.List.{List}
 use Prim.Native.Nat.{ℕ}
 use lib.Dec.{T, not_T}
+use lib.ListN.{length}
 use lib.Ieee.{Float, lt}
 use lib.Ieee.Bits.{is_true, is_false}
 use Rattle.bits.proofs.Compare.{lt_trans}
 use Rattle.space.specs.declared.Point3f.{Point3f}
 use Rattle.space.specs.Distance.{distance_squared}
 use Rattle.tree.proofs.Walk.{Falling}
-use Rattle.search.specs.Search.{limit, first_best, replaces, nearer, visit, enters}
-use Rattle.search.specs.declared.Held.{Held}
+use Rattle.walk.specs.Pruned.{Begins}
+use Rattle.search.specs.Bounded.{rule, Holds}
+use Rattle.search.specs.declared.Bounded.{Bounded}
+use Rattle.search.specs.Search.{limit, first_best, visit, enters}
 use Rattle.search.specs.declared.Nearest.{Nearest}
 use Rattle.search.specs.declared.Nearest.TheVariants.{Found, Nothing}
 
@@ -44,19 +48,9 @@ falling q bound pl n s = go (lt (distance_squared q n.point) (limit bound s)) re
     go true e h = is_true (lt pl (limit bound s)) (lt_trans pl d (limit bound s) (is_T (lt pl d) h) (is_T (lt d (limit bound s)) e))
     go false e h = h
 
--- ---- the best with its distance beside it
+-- ---- where the walk begins
 
-pub next-held : (bound : Float) (i : ℕ) (d : Float) (h r : Held) → h.limit ≡ limit bound h.best → r ≡ nearer i d h
-    → (r.limit ≡ limit bound r.best) × (r.best ≡ replaces bound i d h.best)
-next-held bound i d h r e is-next = (
-  ap (λ (x : Held). x.limit) is-next ∙ keeps (lt d h.limit) ∙ ap (λ (x : Held). limit bound x.best) (sym is-next),
-  ap (λ (x : Held). x.best) is-next ∙ taken (lt d h.limit) ∙ ap (λ (x : Float). cond (lt d x) (Found i d) h.best) e,
-)
-  where
-    keeps : (c : Bool) → (cond c (record { best = Found i d; limit = d }) h).limit ≡ limit bound (cond c (record { best = Found i d; limit = d }) h).best
-    keeps true = refl
-    keeps false = e
-
-    taken : (c : Bool) → (cond c (record { best = Found i d; limit = d }) h).best ≡ cond c (Found i d) h.best
-    taken true = refl
-    taken false = refl
+pub begins : (indices : List ℕ) (q : Point3f) (bound : Float) (search : Bounded) → search.indices.now ≡ indices → search.limit ≡ limit bound search.best
+    → Begins rule (λ a room s best. Holds a s best) (length indices) q search
+    (record { indices = indices; query = q; bound = bound }) search.best
+begins indices q bound search a b = record { from = refl; over = refl; falling = falling q bound; holds = record { indices = a; best = refl; limit = b } }

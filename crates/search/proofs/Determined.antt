@@ -5,35 +5,29 @@ use mathlib.Core.Bool.{Bool, true, false}
 use mathlib.Core.List.Memᴰ
 use mathlib.Core.List.{List, [], ◌∷◌, ◌++◌, Memᴰ}
 use Prim.Native.Nat.{ℕ}
-use native.Mathlib.Omega.{arith}
 use lib.Dec.{T, not_T}
 use lib.Ieee.{Float, lt, le}
 use lib.Ieee.Bits.{is_true}
 use Rattle.bits.proofs.Compare.{number, lt-number-l, le_of_not_lt}
 use Rattle.space.specs.declared.Point3f.{Point3f}
 use Rattle.space.specs.Distance.{distance_squared}
+use Rattle.std.proofs.Common.{Result}
 use Rattle.tree.specs.Slots.{Slot}
-use Rattle.search.specs.Search.{outcome_of, bounded, unbounded}
+use Rattle.tree.specs.Refusal.{outcome_of}
+use Rattle.tree.specs.declared.Refusal.{Refusal}
+use Rattle.tree.proofs.Outcomes.{outcome-tells}
+use Rattle.search.specs.Search.{bounded, unbounded}
 use Rattle.search.specs.Demands.{NoneBelow, FirstLeast, LeastBelow, Demand2}
 use Rattle.search.specs.declared.Nearest.{Nearest}
 use Rattle.search.specs.declared.Nearest.TheVariants.{Found, Nothing}
-use Rattle.search.specs.declared.Searched.{Searched}
-use Rattle.search.specs.declared.Searched.TheVariants.{Answer, Refused}
 use Rattle.search.proofs.Best.{is_T, yes-no}
 use Rattle.search.proofs.Demand2.{none_more}
 
--- an outcome tells the result
-pub outcome-tells : (r s : Searched) → outcome_of r ≡ outcome_of s → r ≡ s
-outcome-tells (Answer n) (Answer m) e = cc
-outcome-tells (Answer n) (Refused m) e = absurd (let z : ◌≡◌ {A = ℕ} 0 1 = cc in omega arith)
-outcome-tells (Refused n) (Answer m) e = absurd (let z : ◌≡◌ {A = ℕ} 0 1 = cc in omega arith)
-outcome-tells (Refused n) (Refused m) e = cc
-
-pub bounded-determined : (coords : List Float) (indices : List ℕ) (q : Point3f) (bound : Float) (seed : Nearest) (r s : Searched)
+pub bounded-determined : (coords : List Float) (indices : List ℕ) (q : Point3f) (bound : Float) (seed : Nearest) (r s : Result Nearest Refusal)
     → outcome_of r ≡ bounded coords indices q bound seed → outcome_of s ≡ bounded coords indices q bound seed → r ≡ s
 bounded-determined coords indices q bound seed r s a b = outcome-tells r s (a ∙ sym b)
 
-pub unbounded-determined : (coords : List Float) (indices : List ℕ) (q : Point3f) (r s : Searched)
+pub unbounded-determined : (coords : List Float) (indices : List ℕ) (q : Point3f) (r s : Result Nearest Refusal)
     → outcome_of r ≡ unbounded coords indices q → outcome_of s ≡ unbounded coords indices q → r ≡ s
 unbounded-determined coords indices q r s a b = outcome-tells r s (a ∙ sym b)
 

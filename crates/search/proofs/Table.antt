@@ -15,12 +15,10 @@ use Rattle.space.specs.Exact.{exact}
 use Rattle.tree.specs.Slots.{Slot, slot, point_at, slots}
 use Rattle.tree.specs.Part.{part_of, lent}
 use Rattle.tree.specs.Walk.{walk}
-use Rattle.search.specs.Search.{walked, searched, bounded, unbounded, nearer, outcome_of, limit}
+use Rattle.search.specs.Search.{walked, searched, bounded, unbounded, replaces, limit}
 use Rattle.search.specs.Demands.{FirstLeast, LeastBelow, Demand2, Demand3}
 use Rattle.search.specs.declared.Nearest.{Nearest}
 use Rattle.search.specs.declared.Nearest.TheVariants.{Found, Nothing}
-use Rattle.search.specs.declared.Held.{Held}
-use Rattle.search.specs.declared.Searched.TheVariants.{Answer, Refused}
 
 abbrev zero0 : Float
 zero0 = fin false 0 (pos 0)
@@ -106,15 +104,12 @@ pub table : rows
 unfolding rows
 table = refl
 
--- ---- the cases of the answer, and the best beside its distance as code holds it
+-- ---- what replaces the best
 
-cases : (outcome_of (Answer (Found 7 one1)) ≡ gives (Found 7 one1)) × (outcome_of (Answer Nothing) ≡ gives Nothing) × (outcome_of (Refused 2) ≡ refused 2)
-cases = (refl, refl, refl)
+abbrev held : Nearest
+held = Found 7 one1
 
-abbrev held : Held
-held = record { best = Found 7 one1; limit = one1 }
-
-strictly-nearer : (nearer 8 one1 held ≡ held) × (nearer 8 half held ≡ record { best = Found 8 half; limit = half }) × (nearer 8 nan held ≡ held)
+strictly-nearer : (replaces one1 8 one1 held ≡ held) × (replaces one1 8 half held ≡ Found 8 half) × (replaces one1 8 nan held ≡ held)
 unfolding lt le eq
 strictly-nearer = (refl, refl, refl)
 

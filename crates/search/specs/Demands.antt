@@ -1,19 +1,18 @@
 -- Demands 2 and 3: what an answer means on the tree of a cloud, told of the points alone, without the walk. Definitions only.
-use Rattle.std.specs.Prelude.{ℕ, ◌*◌, ◌≤◌, ◌<◌, ◌≡◌, true, false, Float}
+use Rattle.std.specs.Prelude.{ℕ, ◌*◌, ◌≤◌, ◌<◌, ◌≡◌, true, false, Result, Ok, Float}
 use mathlib.Core.List.{List, ◌∷◌, ◌++◌, Memᴰ}
 use Rattle.std.specs.Float.Ieee.{lt, le}
 use Rattle.space.specs.declared.Point3f.{Point3f}
 use Rattle.space.specs.Distance.{distance_squared}
 use Rattle.space.specs.Exact.{Tame, exact}
 use Rattle.tree.specs.Refuse.{count}
+use Rattle.tree.specs.declared.Refusal.{Refusal}
 use Rattle.tree.specs.Slots.{Slot, point_at, slots}
 use Rattle.tree.specs.Part.{laid}
 use Rattle.tree.specs.Cloud.{tree_of}
 use Rattle.tree.specs.Walk.{order}
 use Rattle.search.specs.declared.Nearest.{Nearest}
 use Rattle.search.specs.declared.Nearest.TheVariants.{Found, Nothing}
-use Rattle.search.specs.declared.Searched.{Searched}
-use Rattle.search.specs.declared.Searched.TheVariants.{Answer}
 
 -- the lent slots are the tree of the cloud
 abbrev pub IsTree : List Float → List Float → List ℕ → Type 0
@@ -62,9 +61,9 @@ pub record Demand2 (q : Point3f) (near-first : List Slot) (bound : Float) (seed 
       → LeastBelow q near-first e answer
 
 -- Demand 2 of an entry that returned r: for every cloud whose tree the lent slots are, and the answer that r holds
-abbrev pub MeetsDemand2 : List Float → List ℕ → Point3f → Float → Nearest → Searched → Type 0
+abbrev pub MeetsDemand2 : List Float → List ℕ → Point3f → Float → Nearest → Result Nearest Refusal → Type 0
 MeetsDemand2 coords indices q bound seed r =
-    (cloud : List Float) (answer : Nearest) → IsTree cloud coords indices → r ≡ Answer answer → Demand2 q (near_first cloud q) bound seed answer
+    (cloud : List Float) (answer : Nearest) → IsTree cloud coords indices → r ≡ Ok answer → Demand2 q (near_first cloud q) bound seed answer
 
 -- Demand 3, of an answer on the tree of a cloud: the index of a point of the cloud that no other is nearer than, exactly, but for one part in 2 ^ 20
 pub record Demand3 (cloud : List Float) (q : Point3f) (answer : Nearest) : Type 0 where
@@ -75,7 +74,7 @@ pub record Demand3 (cloud : List Float) (q : Point3f) (answer : Nearest) : Type 
   pub nearest : (j : ℕ) → j < count cloud → exact q (point_at cloud index) * 1048576 ≤ exact q (point_at cloud j) * 1048577
 
 -- Demand 3 of an entry that returned r: the cloud holds a point, and all coordinates are multiples of 2^-40 of magnitude at most 2^40
-abbrev pub MeetsDemand3 : List Float → List ℕ → Point3f → Searched → Type 0
+abbrev pub MeetsDemand3 : List Float → List ℕ → Point3f → Result Nearest Refusal → Type 0
 MeetsDemand3 coords indices q r =
-    (cloud : List Float) (answer : Nearest) → IsTree cloud coords indices → r ≡ Answer answer → 0 < count cloud
+    (cloud : List Float) (answer : Nearest) → IsTree cloud coords indices → r ≡ Ok answer → 0 < count cloud
     → ((i : ℕ) → i < count cloud → Tame (point_at cloud i)) → Tame q → Demand3 cloud q answer

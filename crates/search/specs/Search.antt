@@ -4,15 +4,12 @@ use Rattle.std.specs.Float.Ieee.{lt}
 use Rattle.bits.specs.Constants.{infinite}
 use Rattle.space.specs.declared.Point3f.{Point3f}
 use Rattle.space.specs.Distance.{distance_squared}
-use Rattle.tree.specs.Refuse.{Outcome, refused, gives, on_tree}
+use Rattle.tree.specs.Refuse.{Outcome, gives, on_tree}
 use Rattle.tree.specs.Slots.{Slot}
 use Rattle.tree.specs.Part.{lent}
 use Rattle.tree.specs.Walk.{walk}
 use Rattle.search.specs.declared.Nearest.{Nearest}
 use Rattle.search.specs.declared.Nearest.TheVariants.{Found, Nothing}
-use Rattle.search.specs.declared.Held.{Held}
-use Rattle.search.specs.declared.Searched.{Searched}
-use Rattle.search.specs.declared.Searched.TheVariants.{Answer, Refused}
 
 -- the distance that stands as best: that of the best, or "the bound itself"
 abbrev pub limit : Float → Nearest → Float
@@ -31,10 +28,6 @@ replaces bound i d best = cond (lt d (limit bound best)) (Found i d) best
 abbrev pub visit : Point3f → Float → Slot → Nearest → Nearest
 visit q bound n best = replaces bound n.index (distance_squared q n.point) best
 
--- the same with the distance that stands as best beside the best, as code holds it
-abbrev pub nearer : ℕ → Float → Held → Held
-nearer i d held = cond (lt d held.limit) (record { best = Found i d; limit = d }) held
-
 -- "A far part is judged when its near part is done; if its a·a is not below the best then, it is not entered."
 abbrev pub enters : Float → Float → Nearest → Bool
 enters bound plane best = lt plane (limit bound best)
@@ -48,11 +41,6 @@ walked coords indices q bound first = walk (visit q bound) (enters bound) q 0 (l
 unfoldable pub searched : List Float → List ℕ → Point3f → Float → Nearest → Nearest
 unfolding walked
 searched coords indices q bound seed = walked coords indices q bound (first_best bound seed)
-
--- each case of the answer in document 01's numbers and values: what was found, or the number of the refusal
-abbrev pub outcome_of : Searched → Outcome Nearest
-outcome_of (Answer n) = gives n
-outcome_of (Refused k) = refused k
 
 -- bounded search as an entry: refusals 1 and 2 of the tree, then the search
 unfoldable pub bounded : List Float → List ℕ → Point3f → Float → Nearest → Outcome Nearest

@@ -1,27 +1,22 @@
 // Bounded and unbounded search on the slots of a tree, which are lent as two slices.
 #![tactic(auto)]
 
-ghost use Rattle.std.specs.Prelude.{◌≡◌, ◌*◌, ◌<◌, ◌≤◌, length, get_or};
+ghost use Rattle.std.specs.Prelude.{◌≡◌};
 ghost use Rattle.bits.specs.Constants.{infinite};
-ghost use Rattle.search.specs.Search.{limit, first_best, nearer, walked, outcome_of, bounded, unbounded};
+ghost use Rattle.tree.specs.Refusal.{outcome_of};
+ghost use Rattle.search.specs.declared.Nearest.{Nearest};
+ghost use Rattle.search.specs.Search.{limit, first_best, searched, bounded, unbounded};
 ghost use Rattle.search.specs.Demands.{MeetsDemand2, MeetsDemand3};
 
 use space::Point3f;
-use tree::KdTree;
-use walk::{Group, Waiting};
+use tree::{KdTree, Refusal};
+use walk::Search;
 
-// An index with its squared distance, or nothing: the answer, the best so far, and the seed.
-#[derive(Clone, Copy)]
+// An index with its squared distance, or nothing: the answer, the best so far, and the seed. An enum by value, not an `Option`, as 01 says.
+#[derive(Clone, Copy, Debug, PartialEq)]
 pub enum Nearest {
     Found(u32, f32),
     Nothing,
-}
-
-// What an entry answers: the answer of the search, or the number of the refusal.
-#[derive(Clone, Copy)]
-pub enum Searched {
-    Answer(Nearest),
-    Refused(u32),
 }
 
 impl Nearest {
@@ -29,94 +24,67 @@ impl Nearest {
     fn limit(self, bound_sq: f32) -> f32
         ensures { result ≡ limit bound_sq self }
     {
-        let Nearest::Found(_, d) = self else {
-            return bound_sq;
-        };
-        d
+        match self {
+            Nearest::Found(_, d) => d,
+            Nearest::Nothing => bound_sq,
+        }
     }
 
     // A seed is the first best only if it is below the bound.
     fn first(self, bound_sq: f32) -> Nearest
         ensures { result ≡ first_best bound_sq self }
     {
-        let Nearest::Found(i, d) = self else {
-            return Nearest::Nothing;
-        };
-        if d < bound_sq {
-            Nearest::Found(i, d)
-        } else {
-            Nearest::Nothing
+        match self {
+            Nearest::Found(_, d) if d < bound_sq => self,
+            _ => Nearest::Nothing,
         }
     }
 }
 
-// The best so far beside the distance that a slot has to be strictly below.
-#[derive(Clone, Copy)]
-pub struct Held {
-    pub best: Nearest,
-    pub limit: f32,
+// What bounded search holds while it walks: the best so far beside the distance that a slot has to be strictly below.
+#[derive(Drop)]
+struct Bounded<'a> {
+    indices: &'a [u32],
+    best: Nearest,
+    limit: f32,
 }
 
-impl Held {
-    // The slot at `at`, d away, replaces the best only when strictly nearer.
-    fn nearer(self, indices: &[u32], at: usize, d: f32) -> Held
-        requires { at < length indices.now }
-        ensures { result ≡ nearer (get_or indices.now at 0) d self }
-    {
-        if d < self.limit {
-            Held {
-                best: Nearest::Found(indices[at], d),
-                limit: d,
-            }
-        } else {
-            self
+impl Search for Bounded<'_> {
+    ghost use Rattle.search.specs.Bounded.{Asked, rule, Holds};
+
+    ghost Asked = { Asked };
+
+    ghost State = { Nearest };
+
+    ghost rule = { rule };
+
+    ghost Holds = { λ asked room search best. Holds asked search best };
+
+    // A slot replaces the best only when strictly nearer.
+    fn visit(&mut self, at: u32, distance_sq: f32) {
+        if distance_sq < self.limit {
+            self.best = Nearest::Found(self.indices[at as usize], distance_sq);
+            self.limit = distance_sq;
         }
+    }
+
+    fn enters(&self, plane_sq: f32) -> bool {
+        plane_sq < self.limit
     }
 }
 
-// The pruned walk: the near part is gone into at once, far parts wait, and each is judged when it is taken off.
-// One that is not below the best already does not wait, since the best only falls.
-fn pruned_walk(
-    coords: &[f32],
-    indices: &[u32],
-    query: Point3f,
-    bound_sq: f32,
-    first: Nearest,
-) -> Nearest
-    requires { (length coords.now ≡ 3 * length indices.now) × (length indices.now ≤ 1048576) }
-    ensures { result ≡ walked coords.now indices.now query bound_sq first }
+// The search in a tree whose lengths have been tested.
+pub fn nearest_in(tree: &KdTree, query: Point3f, bound_sq: f32, seed: Nearest) -> Nearest
+    ensures { result ≡ searched tree.now.coords tree.now.indices query bound_sq seed }
 {
-    let m = indices.len() as u32;
-    // No more far parts wait than there are levels; those that do stand from free up to places.
-    let places = KdTree::levels(m) as usize;
-    let mut stack = [Waiting::none(); KdTree::MAX_STACK];
-    let mut free = places;
-    let mut group = Group::whole(m);
-    let mut held = Held {
+    let first = seed.first(bound_sq);
+    let mut search = Bounded {
+        indices: tree.indices(),
         best: first,
         limit: first.limit(bound_sq),
     };
-    loop {
-        if group.len == 0 {
-            if free == places {
-                return held.best;
-            }
-            let far = stack[free];
-            free += 1;
-            if far.plane_sq < held.limit {
-                group = far.group;
-            }
-        } else {
-            let node = group.look(coords, query);
-            held = held.nearer(indices, group.start as usize, node.distance_sq);
-            group = node.near;
-            let far = node.far;
-            if far.waits(far.plane_sq < held.limit) {
-                free -= 1;
-                stack[free] = far;
-            }
-        }
-    }
+    walk::pruned_walk(tree, query, &mut search);
+    search.best
 }
 
 // The nearest slot strictly below the bound, or the seed where that is below it and no slot is nearer; or nothing.
@@ -126,21 +94,16 @@ pub fn find_nearest_bounded(
     query: Point3f,
     bound_sq: f32,
     seed: Nearest,
-) -> Searched
+) -> Result<Nearest, Refusal>
     ensures rule { outcome_of result ≡ bounded coords.now indices.now query bound_sq seed }
     ensures demand2 { MeetsDemand2 coords.now indices.now query bound_sq seed result }
 {
-    if coords.len() != 3 * indices.len() {
-        return Searched::Refused(1);
-    }
-    if KdTree::MAX_POINTS < indices.len() {
-        return Searched::Refused(2);
-    }
-    Searched::Answer(pruned_walk(coords, indices, query, bound_sq, seed.first(bound_sq)))
+    let tree = KdTree::of(coords, indices)?;
+    Ok(nearest_in(&tree, query, bound_sq, seed))
 }
 
 // The nearest slot, whatever its distance below infinity; or nothing.
-pub fn find_nearest(coords: &[f32], indices: &[u32], query: Point3f) -> Searched
+pub fn find_nearest(coords: &[f32], indices: &[u32], query: Point3f) -> Result<Nearest, Refusal>
     ensures rule { outcome_of result ≡ unbounded coords.now indices.now query }
     ensures demand2 { MeetsDemand2 coords.now indices.now query infinite (Nearest.Nothing) result }
     ensures demand3 { MeetsDemand3 coords.now indices.now query result }

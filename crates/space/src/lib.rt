@@ -1,11 +1,11 @@
 // Points of space by value, and what the search computes of them.
-#![tactic(auto)]
+#![tactic(auto, unfolding(crate::specs::Distance::distance_squared))]
 
 ghost use Rattle.std.specs.Prelude.{◌≡◌};
 ghost use Rattle.space.specs.Distance.{on, distance_squared};
 
 // A point of space, or a query.
-#[derive(Clone, Copy)]
+#[derive(Clone, Copy, Debug, PartialEq)]
 pub struct Point3f {
     pub x: f32,
     pub y: f32,
@@ -17,12 +17,10 @@ impl Point3f {
     pub fn on(self, axis: u32) -> f32
         ensures { result ≡ on axis self }
     {
-        if axis == 0 {
-            self.x
-        } else if axis == 1 {
-            self.y
-        } else {
-            self.z
+        match axis {
+            0 => self.x,
+            1 => self.y,
+            _ => self.z,
         }
     }
 

@@ -1,7 +1,7 @@
 // A list that is read a word at a time, and what is counted of it.
 #![tactic(auto)]
 
-ghost use Rattle.std.specs.Prelude.{◌<◌, ◌≤◌};
+ghost use Rattle.std.specs.Prelude.{◌≤◌};
 
 use space::Point3f;
 use std::io::Read;
@@ -10,189 +10,168 @@ use sums::Vector3d;
 // Points of a cloud, at most, and their numbers.
 pub const POINTS: usize = 1025;
 
-pub const NUMBERS: usize = 3075;
+pub const NUMBERS: usize = 3 * POINTS;
 
 // Where the Rust fixes no index, the list has this one.
 const ANY: u32 = 4294967294;
 
-// Differences, cases and calls of each entry, then the values and the indices that were compared.
-pub type Counts = [u64; 20];
+// What is counted: cases, calls of each entry, the values and the indices that were compared, and differences.
+#[derive(Clone, Copy, Debug, PartialEq, Eq)]
+pub enum Kind {
+    Cases,
+    Build,
+    IsTree,
+    Nearest,
+    Bounded,
+    Squares,
+    Roots,
+    Radius,
+    Limit,
+    Matching,
+    Pairs,
+    Sums,
+    Mse,
+    Scale,
+    Centred,
+    Frame,
+    Local,
+    Values,
+    Indices,
+    Differ,
+}
 
-pub const DIFFER: usize = 0;
-
-pub const CASES: usize = 1;
-
-pub const BUILD: usize = 2;
-
-pub const IS_TREE: usize = 3;
-
-pub const NEAREST: usize = 4;
-
-pub const BOUNDED: usize = 5;
-
-pub const SQUARES: usize = 6;
-
-pub const ROOTS: usize = 7;
-
-pub const RADIUS: usize = 8;
-
-pub const LIMIT: usize = 9;
-
-pub const MATCHING: usize = 10;
-
-pub const PAIRS: usize = 11;
-
-pub const SUMS: usize = 12;
-
-pub const MSE: usize = 13;
-
-pub const SCALE: usize = 14;
-
-pub const CENTRED: usize = 15;
-
-pub const FRAME: usize = 16;
-
-pub const LOCAL: usize = 17;
-
-pub const VALUES: usize = 18;
-
-pub const INDICES: usize = 19;
+pub const KINDS: usize = 20;
 
 // What the list is read from, and the counts so far.
 #[derive(Drop)]
 pub struct Answers<R> {
-    pub list: R,
-    pub counts: Counts,
+    list: R,
+    counts: [u64; KINDS],
 }
 
-pub fn tally(counts: &mut Counts, k: usize) {
-    if k < 20 {
-        counts[k] = counts[k].wrapping_add(1);
+impl<R: Read> Answers<R> {
+    pub fn new(list: R) -> Answers<R> {
+        Answers {
+            list,
+            counts: [0; KINDS],
+        }
     }
-}
 
-// One more of kind k, and a difference if it is not the same.
-pub fn judge(counts: &mut Counts, k: usize, same: bool) {
-    tally(counts, k);
-    if same {
-        return;
+    pub fn count(&self, kind: Kind) -> u64 {
+        self.counts[kind as usize]
     }
-    tally(counts, DIFFER);
-}
 
-fn wide(b: u8) -> u32
-    ensures { result < 256 }
-{
-    b as u32
-}
-
-fn joined(b: &[u8; 4]) -> u32 {
-    wide(b[0]) + 256 * wide(b[1]) + 65536 * wide(b[2]) + 16777216 * wide(b[3])
-}
-
-// The next word; where the list has ended or cannot be read, 0 and a difference.
-pub fn word(answers: &mut Answers<impl Read>) -> u32 {
-    let mut bytes = [0u8; 4];
-    let n = input::read_full(&mut answers.list, &mut bytes).unwrap_or(0);
-    if n != 4 {
-        tally(&mut answers.counts, DIFFER);
+    pub fn tally(&mut self, kind: Kind) {
+        let count = &mut self.counts[kind as usize];
+        *count = count.wrapping_add(1);
     }
-    joined(&bytes)
-}
 
-// What is left of the list is a difference, and so is an end that cannot be read.
-pub fn end(answers: &mut Answers<impl Read>) {
-    let mut bytes = [0u8; 4];
-    match input::read_full(&mut answers.list, &mut bytes) {
-        Ok(0) => {}
-        _ => tally(&mut answers.counts, DIFFER),
+    // One more of a kind, and a difference if it is not the same.
+    pub fn judge(&mut self, kind: Kind, same: bool) {
+        self.tally(kind);
+        if !same {
+            self.tally(Kind::Differ);
+        }
     }
-}
 
-pub fn float(answers: &mut Answers<impl Read>) -> f32 {
-    bits::f32_from_bits(word(answers))
-}
-
-pub fn point(answers: &mut Answers<impl Read>) -> Point3f {
-    let x = float(answers);
-    let y = float(answers);
-    let z = float(answers);
-    Point3f { x, y, z }
-}
-
-// A number of things that follow; one over the most is a difference and stands for none.
-pub fn upto(most: usize, answers: &mut Answers<impl Read>) -> usize
-    ensures { result ≤ most }
-{
-    let n = word(answers) as usize;
-    if n <= most {
-        return n;
+    // The next word; where the list has ended or cannot be read, 0 and a difference.
+    pub fn word(&mut self) -> u32 {
+        let mut bytes = [0u8; 4];
+        let n = input::read_full(&mut self.list, &mut bytes).unwrap_or(0);
+        if n != 4 {
+            self.tally(Kind::Differ);
+        }
+        u32::from_le_bytes(bytes)
     }
-    tally(&mut answers.counts, DIFFER);
-    0
-}
 
-pub fn read_floats(out: &mut [f32], answers: &mut Answers<impl Read>) {
-    let mut i: usize = 0;
-    while i < out.len() {
-        out[i] = float(answers);
-        i += 1;
+    // What is left of the list is a difference, and so is an end that cannot be read.
+    pub fn end(&mut self) {
+        let mut bytes = [0u8; 4];
+        match input::read_full(&mut self.list, &mut bytes) {
+            Ok(0) => {}
+            _ => self.tally(Kind::Differ),
+        }
     }
-}
 
-pub fn read_words(out: &mut [u32], answers: &mut Answers<impl Read>) {
-    let mut i: usize = 0;
-    while i < out.len() {
-        out[i] = word(answers);
-        i += 1;
+    pub fn float(&mut self) -> f32 {
+        bits::f32_from_bits(self.word())
     }
-}
 
-pub fn same_word(have: u32, answers: &mut Answers<impl Read>) {
-    let want = word(answers);
-    judge(&mut answers.counts, VALUES, have == want);
-}
-
-// Bits compared, every NaN one pattern.
-pub fn same_float(have: f32, answers: &mut Answers<impl Read>) {
-    let want = bits::f32_to_bits(float(answers));
-    judge(&mut answers.counts, VALUES, bits::f32_to_bits(have) == want);
-}
-
-fn double(answers: &mut Answers<impl Read>) -> f64 {
-    let low = word(answers) as u64;
-    let high = word(answers) as u64;
-    bits::f64_from_bits(low + 4294967296 * high)
-}
-
-pub fn same_double(have: f64, answers: &mut Answers<impl Read>) {
-    let want = bits::f64_to_bits(double(answers));
-    judge(&mut answers.counts, VALUES, bits::f64_to_bits(have) == want);
-}
-
-pub fn same_index(have: u32, answers: &mut Answers<impl Read>) {
-    let want = word(answers);
-    if want != ANY {
-        judge(&mut answers.counts, INDICES, have == want);
+    pub fn point(&mut self) -> Point3f {
+        let x = self.float();
+        let y = self.float();
+        let z = self.float();
+        Point3f { x, y, z }
     }
-}
 
-pub fn same_point(p: Point3f, answers: &mut Answers<impl Read>) {
-    same_float(p.x, answers);
-    same_float(p.y, answers);
-    same_float(p.z, answers);
-}
+    // A number of things that follow; one over the most is a difference and stands for none.
+    pub fn up_to(&mut self, most: usize) -> usize
+        ensures { result ≤ most }
+    {
+        let n = self.word() as usize;
+        if n <= most {
+            return n;
+        }
+        self.tally(Kind::Differ);
+        0
+    }
 
-pub fn same_vector(v: Vector3d, answers: &mut Answers<impl Read>) {
-    same_double(v.x, answers);
-    same_double(v.y, answers);
-    same_double(v.z, answers);
-}
+    pub fn read_floats(&mut self, out: &mut [f32]) {
+        for x in out.iter_mut() {
+            *x = self.float();
+        }
+    }
 
-pub fn same_indices(list: &[u32], answers: &mut Answers<impl Read>) {
-    let mut i: usize = 0;
-    while i < list.len() {
-        same_index(list[i], answers);
-        i += 1;
+    pub fn read_words(&mut self, out: &mut [u32]) {
+        for word in out.iter_mut() {
+            *word = self.word();
+        }
+    }
+
+    pub fn same_word(&mut self, have: u32) {
+        let want = self.word();
+        self.judge(Kind::Values, have == want);
+    }
+
+    // Bits compared, every NaN one pattern.
+    pub fn same_float(&mut self, have: f32) {
+        let want = bits::f32_to_bits(self.float());
+        self.judge(Kind::Values, bits::f32_to_bits(have) == want);
+    }
+
+    fn double(&mut self) -> f64 {
+        let low = self.word() as u64;
+        let high = self.word() as u64;
+        bits::f64_from_bits(low + 4294967296 * high)
+    }
+
+    pub fn same_double(&mut self, have: f64) {
+        let want = bits::f64_to_bits(self.double());
+        self.judge(Kind::Values, bits::f64_to_bits(have) == want);
+    }
+
+    pub fn same_index(&mut self, have: u32) {
+        let want = self.word();
+        if want != ANY {
+            self.judge(Kind::Indices, have == want);
+        }
+    }
+
+    pub fn same_point(&mut self, p: Point3f) {
+        self.same_float(p.x);
+        self.same_float(p.y);
+        self.same_float(p.z);
+    }
+
+    pub fn same_vector(&mut self, v: Vector3d) {
+        self.same_double(v.x);
+        self.same_double(v.y);
+        self.same_double(v.z);
+    }
+
+    pub fn same_indices(&mut self, indices: &[u32]) {
+        for &i in indices {
+            self.same_index(i);
+        }
     }
 }

@@ -3,19 +3,14 @@ use mathlib.Core.Path.{◌≡◌, sym, ◌∙◌}
 use mathlib.Core.List.{List}
 use Prim.Native.Nat.{ℕ}
 use lib.Ieee.{Float}
-use Rattle.sums.specs.declared.Collected.{Collected}
-use Rattle.sums.specs.declared.Collected.TheVariants.{Sums, Refused}
-use Rattle.sums.specs.Cases.{collected}
+use Rattle.std.proofs.Common.{Result}
+use Rattle.tree.specs.Refusal.{outcome_of}
+use Rattle.tree.specs.declared.Refusal.{Refusal}
+use Rattle.tree.proofs.Outcomes.{outcome-tells}
+use Rattle.sums.specs.declared.CorrespondenceStats.{CorrespondenceStats}
 use Rattle.sums.specs.Entries.{sums_in}
 
--- the cases of the answer are told apart
-collected-apart : (r s : Collected) → collected r ≡ collected s → r ≡ s
-collected-apart (Sums a) (Sums b) e = cc
-collected-apart (Sums a) (Refused m) e = cc
-collected-apart (Refused n) (Sums b) e = cc
-collected-apart (Refused n) (Refused m) e = cc
-
 -- `CorrespondenceStats::collect`
-pub collect-determined : (source target : List Float) (matches : List ℕ) (r s : Collected)
-    → collected r ≡ sums_in source target matches → collected s ≡ sums_in source target matches → r ≡ s
-collect-determined source target matches r s p q = collected-apart r s (p ∙ sym q)
+pub collect-determined : (source target : List Float) (matches : List ℕ) (r s : Result CorrespondenceStats Refusal)
+    → outcome_of r ≡ sums_in source target matches → outcome_of s ≡ sums_in source target matches → r ≡ s
+collect-determined source target matches r s p q = outcome-tells r s (p ∙ sym q)

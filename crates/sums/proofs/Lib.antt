@@ -1,5 +1,4 @@
 pub mod Runs
-pub mod Refusals
 pub mod Count
 pub mod Determined
 pub mod Table

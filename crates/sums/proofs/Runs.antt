@@ -10,22 +10,11 @@ use lib.Dec.{eqb}
 use lib.ListN.{length, get_or, take, drop, length-drop, length-take}
 use lib.Seq.{drop-cons, drop-drop, drop-length}
 use lib.Ieee.{Float}
-use borrow.Author.Tests.{eq-eqb, ne_eqb}
 use Rattle.tree.specs.Slots.{Slot, point_at, none}
 use Rattle.tree.specs.Refuse.{no_match}
 use Rattle.sums.specs.declared.CorrespondenceStats.{CorrespondenceStats}
 use Rattle.sums.specs.Stats.{zero_sums, add_pair, merge_sums}
 use Rattle.sums.specs.Sums.{add_entry, add_entries, cut, add_runs, sums_by}
-
--- ---- an entry that is no match, and one that is
-
-pub entry-none : (target : List Float) (s : CorrespondenceStats) (c : Slot) → c.index ≡ no_match → s ≡ add_entry target s c
-unfolding add_entry
-entry-none target s c e = rw (eq-eqb c.index no_match e)
-
-pub entry-one : (target : List Float) (s : CorrespondenceStats) (c : Slot) → (c.index ≡ no_match → ⊥) → add_pair s c.point (point_at target c.index) ≡ add_entry target s c
-unfolding add_entry
-entry-one target s c e = rw (ne_eqb c.index no_match e)
 
 -- ---- the count
 
@@ -61,12 +50,6 @@ pub record Running (target : List Float) (cs : List Slot) (at len : ℕ) (s : Co
   pub rest : add_entries target s (take (at + len - i) (drop i cs)) ≡ add_entries target zero_sums (take len (drop at cs))
 
 module _ {target : List Float} {cs : List Slot} {at len : ℕ} where
-  pub running-begins : (s : CorrespondenceStats) → s ≡ zero_sums → Running target cs at len s at
-  running-begins s e =
-      let n : s.count ≡ 0 = ap (λ (u : CorrespondenceStats). u.count) e in
-      let k : at + len - at ≡ len = omega arith in
-      record { within = omega arith; few = omega arith; rest = rw (e, k) }
-
   pub running-goes : {s : CorrespondenceStats} {i : ℕ} → Running target cs at len s i → at + len ≤ length cs → i < at + len
       → (c : Slot) → get_or cs i none ≡ c → (t : CorrespondenceStats) → t ≡ add_entry target s c → Running target cs at len t (i + 1)
   unfolding add_entries
@@ -126,12 +109,6 @@ pub record Adding (n : ℕ) (target : List Float) (cs : List Slot) (total : Corr
   pub rest : add_runs target total (cut n (length (drop at cs)) (drop at cs)) ≡ sums_by n target cs
 
 module _ {n : ℕ} {target : List Float} {cs : List Slot} where
-  pub adding-begins : (s : CorrespondenceStats) → s ≡ zero_sums → Adding (suc n) target cs s 0
-  unfolding sums_by
-  adding-begins s e =
-      let n : s.count ≡ 0 = ap (λ (u : CorrespondenceStats). u.count) e in
-      record { within = omega arith; few = omega arith; rest = rw e }
-
   -- a run of len entries from at on
   pub adding-goes : {total : CorrespondenceStats} {at : ℕ} → Adding (suc n) target cs total at → at < length cs
       → (len : ℕ) → len ≡ min (suc n) (length cs - at) → (run : CorrespondenceStats) → run ≡ add_entries target zero_sums (take len (drop at cs))

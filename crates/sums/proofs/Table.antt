@@ -12,8 +12,6 @@ use Rattle.tree.specs.Slots.{slots}
 use Rattle.tree.specs.Refuse.{refused, gives, refuse, count, ragged, mismatched, too_many, no_match, any_entry_outside}
 use Rattle.sums.specs.declared.Vector3d.{Vector3d}
 use Rattle.sums.specs.declared.CorrespondenceStats.{CorrespondenceStats}
-use Rattle.sums.specs.declared.Collected.TheVariants.{Sums, Refused}
-use Rattle.sums.specs.Cases.{collected}
 use Rattle.sums.specs.Vector.{narrow_point, minus, times, over, norm_squared}
 use Rattle.sums.specs.Stats.{zero_sums, add_pair, merge_sums, mse}
 use Rattle.sums.specs.Sums.{add_entry, add_entries, cut, add_runs, sums_by, sums}
@@ -109,8 +107,6 @@ record Table : Type 0 where
   multiplied : times (fin false 4097 (pos 0)) (vector (fin false 4097 (pos 0)) #1 #2) ≡ vector (fin false 16785409 (pos 0)) (fin false 4097 (pos 0)) (fin false 4097 (pos 1))
   divided : over (vector (fin false 1644167119 (pos 0)) (fin false 49 (pos 0)) (fin false 49 (pos 1))) (fin false 49 (pos 0)) ≡ vector (fin false 33554431 (pos 0)) #1 #2
   norm : norm_squared (vector #1 #2 #3) ≡ fin false 7 (pos 1)
-  -- the cases of the answer
-  cases : (collected (Sums zero_sums) ≡ gives zero_sums) × (collected (Refused 2) ≡ refused 2)
 
 table : Table
 unfolding sums sums_by slots cut add_runs add_entries add_entry add_pair merge_sums mse sums_in any_entry_outside narrow widen add sub mul div neg sum round units odd size of_int
@@ -144,7 +140,6 @@ table =
       multiplied = refl;
       divided = refl;
       norm = refl;
-      cases = (refl, refl);
     }
 
 -- 2: a cloud that long is too long for a row, so that it is told of every list

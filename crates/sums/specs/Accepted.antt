@@ -1,4 +1,4 @@
--- What holds of the three lists once no refusal is met: what the functions behind the entry ask of their callers.
+-- What holds of the three lists once no refusal is met: the fact that `Matched` keeps.
 use Rattle.std.specs.Prelude.{ℕ, ◌*◌, ◌≤◌, ◌≡◌, false, List, length, Float}
 use Rattle.tree.specs.Refuse.{most_points, count, any_entry_outside}
 

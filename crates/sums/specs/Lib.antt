@@ -2,5 +2,4 @@ pub mod Vector
 pub mod Stats
 pub mod Sums
 pub mod Accepted
-pub mod Cases
 pub mod Entries

@@ -4,18 +4,18 @@
 ghost use Rattle.std.specs.Prelude.{◌≡◌, not, ◌&&◌, ◌+◌, ◌*◌, ◌<◌, ◌≤◌, min, eqb, ltb, length, get_or, drop, take};
 ghost use Rattle.tree.specs.Slots.{slot, point_at, slots};
 ghost use Rattle.tree.specs.Refuse.{no_match, any_entry_outside};
+ghost use Rattle.tree.specs.Refusal.{outcome_of};
 ghost use Rattle.sums.specs.Vector.{zero_vector, wide_point, narrow_point, plus, minus, times, over, norm_squared};
 ghost use Rattle.sums.specs.Stats.{zero_sums, add_pair, merge_sums, mse};
 ghost use Rattle.sums.specs.Sums.{add_entry, add_entries, run_length, sums};
 ghost use Rattle.sums.specs.Accepted.{Accepted};
-ghost use Rattle.sums.specs.Cases.{collected};
 ghost use Rattle.sums.specs.Entries.{sums_in};
 
 use space::Point3f;
-use tree::KdTree;
+use tree::{KdTree, PointCloud, Refusal};
 
 // A vector of three f64.
-#[derive(Clone, Copy)]
+#[derive(Clone, Copy, Debug, PartialEq)]
 pub struct Vector3d {
     pub x: f64,
     pub y: f64,
@@ -23,7 +23,7 @@ pub struct Vector3d {
 }
 
 // Running sums over matched pairs: a row of the nine products for each coordinate of the source point.
-#[derive(Clone, Copy)]
+#[derive(Clone, Copy, Debug, PartialEq)]
 pub struct CorrespondenceStats {
     pub count: u32,
     pub sum_source: Vector3d,
@@ -32,24 +32,6 @@ pub struct CorrespondenceStats {
     pub sum_outer_y: Vector3d,
     pub sum_outer_z: Vector3d,
     pub sum_sq_error: f64,
-}
-
-// What `collect` answers.
-#[derive(Clone, Copy)]
-pub enum Collected {
-    Sums(CorrespondenceStats),
-    Refused(u32),
-}
-
-// Source points of the next run, where so many are left.
-fn run_of(left: usize) -> usize
-    ensures { result ≡ min run_length left }
-{
-    if left < CorrespondenceStats::RUN {
-        left
-    } else {
-        CorrespondenceStats::RUN
-    }
 }
 
 impl Vector3d {
@@ -61,16 +43,6 @@ impl Vector3d {
             y: 0.0,
             z: 0.0,
         }
-    }
-
-    // A point's coordinates, widened.
-    pub fn of(p: Point3f) -> Vector3d
-        ensures { result ≡ wide_point p }
-    {
-        let x = bits::widen(p.x);
-        let y = bits::widen(p.y);
-        let z = bits::widen(p.z);
-        Vector3d { x, y, z }
     }
 
     pub fn plus(self, other: Vector3d) -> Vector3d
@@ -119,16 +91,30 @@ impl Vector3d {
     pub fn narrowed(self) -> Point3f
         ensures { result ≡ narrow_point self }
     {
-        let x = bits::narrow(self.x);
-        let y = bits::narrow(self.y);
-        let z = bits::narrow(self.z);
-        Point3f { x, y, z }
+        Point3f {
+            x: bits::narrow(self.x),
+            y: bits::narrow(self.y),
+            z: bits::narrow(self.z),
+        }
     }
 
     pub fn norm_squared(self) -> f64
         ensures { result ≡ norm_squared self }
     {
         (self.x * self.x + self.y * self.y) + self.z * self.z
+    }
+}
+
+// A point's coordinates, widened.
+impl From<Point3f> for Vector3d {
+    ghost from_gives = { λ p v. v ≡ wide_point p };
+
+    fn from(p: Point3f) -> Vector3d {
+        Vector3d {
+            x: bits::widen(p.x),
+            y: bits::widen(p.y),
+            z: bits::widen(p.z),
+        }
     }
 }
 
@@ -153,12 +139,13 @@ impl CorrespondenceStats {
     }
 
     // One matched pair more.
+    #[tactic(auto, unfolding(crate::specs::Stats::add_pair))]
     fn add(self, source: Point3f, target: Point3f) -> CorrespondenceStats
         requires { self.count < 4294967295 }
         ensures { result ≡ add_pair self source target }
     {
-        let p = Vector3d::of(source);
-        let q = Vector3d::of(target);
+        let p = Vector3d::from(source);
+        let q = Vector3d::from(target);
         let e = p.minus(q);
         CorrespondenceStats {
             count: self.count + 1,
@@ -172,6 +159,7 @@ impl CorrespondenceStats {
     }
 
     // These sums, and then those of a later run.
+    #[tactic(auto, unfolding(crate::specs::Stats::merge_sums))]
     fn merge(self, other: CorrespondenceStats) -> CorrespondenceStats
         requires { self.count + other.count < 4294967296 }
         ensures { result ≡ merge_sums self other }
@@ -187,90 +175,35 @@ impl CorrespondenceStats {
         }
     }
 
-    // The sums with source point i, where its match entry names a target point.
-    fn add_entry(
-        self,
+    // The sums of the matched pairs of a match list, one entry for each source point.
+    #[tactic(auto, unfolding(crate::specs::Entries::sums_in))]
+    pub fn collect(
         source: &[f32],
         target: &[f32],
         matches: &[u32],
-        i: usize,
-    ) -> CorrespondenceStats
-        requires { Accepted source.now target.now matches.now × (i < length matches.now) × (self.count ≤ i) }
-        ensures { result ≡ add_entry target.now self (slot (point_at source.now i) (get_or matches.now i 0)) }
+    ) -> Result<CorrespondenceStats, Refusal>
+        ensures { outcome_of result ≡ sums_in source.now target.now matches.now }
     {
-        let m = matches[i];
-        if m == KdTree::NO_CHILD {
-            return self;
-        }
-        let p = tree::point_at(source, i);
-        let q = tree::point_at(target, m as usize);
-        self.add(p, q)
-    }
-
-    // One run: the source points from at on, len of them, summed from zero in order.
-    fn sum_run(
-        source: &[f32],
-        target: &[f32],
-        matches: &[u32],
-        at: usize,
-        len: usize,
-    ) -> CorrespondenceStats
-        requires { Accepted source.now target.now matches.now × (at + len ≤ length matches.now) }
-        ensures { result ≡ add_entries target.now zero_sums (take len (drop at (slots source.now matches.now))) }
-    {
-        let end = at + len;
-        let mut stats = CorrespondenceStats::zero();
-        let mut i = at;
-        while i < end {
-            stats = stats.add_entry(source, target, matches, i);
-            i += 1;
-        }
-        stats
-    }
-
-    // Every run, added first to last.
-    fn sum_runs(source: &[f32], target: &[f32], matches: &[u32]) -> CorrespondenceStats
-        requires { Accepted source.now target.now matches.now }
-        ensures { result ≡ sums source.now target.now matches.now }
-    {
-        let mut total = CorrespondenceStats::zero();
-        let mut at: usize = 0;
-        while at < matches.len() {
-            let len = run_of(matches.len() - at);
-            let run = CorrespondenceStats::sum_run(source, target, matches, at, len);
-            total = total.merge(run);
-            at += len;
-        }
-        total
-    }
-
-    // The sums of the matched pairs of a match list, one entry for each source point; or the number of the refusal.
-    pub fn collect(source: &[f32], target: &[f32], matches: &[u32]) -> Collected
-        ensures { collected result ≡ sums_in source.now target.now matches.now }
-    {
-        if source.len() % 3 != 0 {
-            return Collected::Refused(1);
-        }
-        if target.len() % 3 != 0 {
-            return Collected::Refused(1);
-        }
-        if matches.len() != source.len() / 3 {
-            return Collected::Refused(1);
-        }
-        if KdTree::MAX_POINTS < matches.len() {
-            return Collected::Refused(2);
+        if source.len() % 3 != 0 || target.len() % 3 != 0 || matches.len() != source.len() / 3 {
+            return Err(Refusal::UnfitLengths);
         }
         let points = target.len() / 3;
-        if KdTree::MAX_POINTS < points {
-            return Collected::Refused(2);
+        if KdTree::MAX_POINTS < matches.len() || KdTree::MAX_POINTS < points {
+            return Err(Refusal::TooMany);
         }
         if tree::any_entry_outside(points, matches) {
-            return Collected::Refused(5);
+            return Err(Refusal::OutsideIndex);
         }
-        Collected::Sums(CorrespondenceStats::sum_runs(source, target, matches))
+        let matched = Matched {
+            source: PointCloud::new(source),
+            target: PointCloud::new(target),
+            matches,
+        };
+        Ok(matched.sums())
     }
 
     // The mean squared error between the points of a pair: 0 where there is none.
+    #[tactic(auto, unfolding(crate::specs::Stats::mse))]
     pub fn mse(self) -> f32
         ensures { result ≡ mse self }
     {
@@ -279,5 +212,54 @@ impl CorrespondenceStats {
         } else {
             bits::narrow(self.sum_sq_error / self.count as f64)
         }
+    }
+}
+
+// Two clouds and the match list between them, once no refusal is met.
+#[derive(Drop)]
+struct Matched<'a> {
+    source: PointCloud<'a>,
+    target: PointCloud<'a>,
+    matches: &'a [u32],
+    ghost accepted: { Accepted source target matches.now },
+}
+
+impl<'a> Matched<'a> {
+    // The sums with source point i, where its match entry names a target point.
+    #[tactic(auto, unfolding(crate::specs::Sums::add_entry))]
+    fn add_entry(&self, stats: CorrespondenceStats, i: usize) -> CorrespondenceStats
+        requires { (i < length self.now.matches.now) × (stats.count ≤ i) }
+        ensures { result ≡ add_entry self.now.target stats (slot (point_at self.now.source i) (get_or self.now.matches.now i 0)) }
+    {
+        let m = self.matches[i];
+        if m == KdTree::NO_CHILD {
+            return stats;
+        }
+        stats.add(self.source.point(i), self.target.point(m as usize))
+    }
+
+    // One run: the source points from at on, len of them, summed from zero in order.
+    fn sum_run(&self, at: usize, len: usize) -> CorrespondenceStats
+        requires { at + len ≤ length self.now.matches.now }
+        ensures { result ≡ add_entries self.now.target zero_sums (take len (drop at (slots self.now.source self.now.matches.now))) }
+    {
+        let mut stats = CorrespondenceStats::zero();
+        for i in at..at + len {
+            stats = self.add_entry(stats, i);
+        }
+        stats
+    }
+
+    // Every run, added first to last.
+    #[tactic(auto, unfolding(crate::specs::Sums::sums))]
+    fn sums(&self) -> CorrespondenceStats
+        ensures { result ≡ sums self.now.source self.now.target self.now.matches.now }
+    {
+        let mut total = CorrespondenceStats::zero();
+        for at in (0..self.matches.len()).step_by(CorrespondenceStats::RUN) {
+            let len = CorrespondenceStats::RUN.min(self.matches.len() - at);
+            total = total.merge(self.sum_run(at, len));
+        }
+        total
     }
 }

@@ -1,5 +1,8 @@
 -- Laws of numbers as text: digit by digit, and how long each text is.
-use Prim.Native.Nat.{ℕ, zero, suc, ◌+◌, ◌-◌, ◌/◌, ◌%◌, ◌≤◌, ◌<◌}
+use Prim.Native.Nat.{ℕ, zero, suc, ◌+◌, ◌-◌, ◌*◌, ◌/◌, ◌%◌, ◌^◌, ◌≤◌, ◌<◌}
+use Rattle.std.proofs.Common.{Option, None, Some, IfNone, IfSome}
+use Rattle.std.specs.Option.{unwrap_or}
+use Rattle.std.proofs.Math.Nat.{pow-succ'}
 use native.Mathlib.Omega.{arith}
 use native.Mathlib.Numerals.{add-one}
 use mathlib.Core.Path.{◌≡◌, refl, sym, ap, ◌∙◌}
@@ -24,14 +27,15 @@ unfolding digits
 digits-none b n = refl
 
 -- the last digit is written, then those before it
-pub digits_last : (l : List ℕ) (at b k n : ℕ) → 0 < k → sets (set l (at + (k - 1)) (letter (n % b))) at (digits b (k - 1) (n / b)) ≡ sets l at (digits b k n)
+pub digits_last : (l : List ℕ) (b k n : ℕ) → 0 < k → sets (set l (k - 1) (letter (n % b))) 0 (digits b (k - 1) (n / b)) ≡ sets l 0 (digits b k n)
 unfolding digits
-digits_last l at b zero n h = absurd (omega arith)
-digits_last l at b (suc k) n h =
+digits_last l b zero n h = absurd (omega arith)
+digits_last l b (suc k) n h =
     let e : suc k - 1 ≡ k = omega arith in
-    ap (λ (j : ℕ). sets (set l (at + j) (letter (n % b))) at (digits b j (n / b))) e
-    ∙ ap (λ (j : ℕ). sets (set l (at + j) (letter (n % b))) at (digits b k (n / b))) (sym (digits-length b k (n / b)))
-    ∙ sym (sets_last l at (digits b k (n / b)) (letter (n % b)))
+    let f : k ≡ 0 + length (digits b k (n / b)) = omega (arith, digits-length b k (n / b)) in
+    ap (λ (j : ℕ). sets (set l j (letter (n % b))) 0 (digits b j (n / b))) e
+    ∙ ap (λ (j : ℕ). sets (set l j (letter (n % b))) 0 (digits b k (n / b))) f
+    ∙ sym (sets_last l 0 (digits b k (n / b)) (letter (n % b)))
 
 -- ---- places
 
@@ -40,16 +44,25 @@ unfolding places
 places-one zero n h = refl
 places-one (suc f) n h = ap (λ (b : Bool). cond b 1 (suc (places f (n / 10)))) (lt-ltb _ _ h)
 
-pub places-more : (f n : ℕ) → 0 < f → 10 ≤ n → places f n ≡ suc (places (f - 1) (n / 10))
-unfolding places
-places-more zero n p h = absurd (omega arith)
-places-more (suc f) n p h =
-    let e : f ≡ suc f - 1 = omega arith in
-    ap (λ (b : Bool). cond b 1 (suc (places f (n / 10)))) (le-ltb _ _ h) ∙ ap (λ (g : ℕ). suc (places g (n / 10))) e
+one-more : (k : ℕ) → 0 < 10 ^ k
+one-more zero = omega arith
+one-more (suc k) = omega (arith, pow-succ' 10 k, one-more k)
 
-pub places-last : (n : ℕ) → places 0 n ≡ 1
+-- n has k + 1 digits where it is between powers of ten
+places-between : (f k n : ℕ) → k ≤ f → 10 ^ k ≤ n → n < 10 * 10 ^ k → places f n ≡ suc k
 unfolding places
-places-last n = refl
+places-between f zero n few low high = places-one f n (omega arith)
+places-between zero (suc k) n few low high = absurd (omega arith)
+places-between (suc f) (suc k) n few low high =
+    let p : 10 ^ suc k ≡ 10 * 10 ^ k = pow-succ' 10 k in
+    let two : 10 ≤ n = omega (arith, one-more k) in
+    ap (λ (b : Bool). cond b 1 (suc (places f (n / 10)))) (le-ltb _ _ two) ∙ ap suc (places-between f k (n / 10) (omega arith) (omega arith) (omega arith))
+
+-- and 0 has one
+pub places-are : (n : ℕ) (r : Option ℕ) (k : ℕ) → IfNone r (n ≡ 0) → IfSome r (λ k. 10 ^ k ≤ n) → IfSome r (λ k. n < 10 * 10 ^ k) → IfSome r (λ k. k < 10) → k ≡ unwrap_or r 0
+    → (k + 1 ≡ places 9 n) × (k + 1 ≤ 10)
+places-are n None k none low high bound e = (omega (arith, places-one 9 n (omega arith)), omega arith)
+places-are n (Some m) k none low high bound e = (omega (arith, places-between 9 m n (omega arith) low high), omega arith)
 
 places-most : (f n : ℕ) → places f n ≤ suc f
 unfolding places

@@ -1,11 +1,15 @@
 -- Texts written one after the other are one text: laws of stores from a place on.
-use Prim.Native.Nat.{ℕ, zero, suc, ◌+◌, ◌≤◌, ◌<◌}
+use Prim.Native.Nat.{ℕ, suc, ◌+◌, ◌-◌, ◌≤◌}
 use native.Mathlib.Omega.{arith}
-use mathlib.Core.Path.{◌≡◌, refl, sym, ap, ap₂, ◌∙◌}
-use mathlib.Core.List.{List, [], ◌∷◌, ◌++◌}
-use lib.ListN.{length, set, get_or, drop, length-append}
-use lib.Seq.{sets, length-sets, sets-eq, set_comm, drop-cons}
-use Rattle.text.specs.Puts.{Puts}
+use mathlib.Core.Path.{◌≡◌, sym, ap, ap₂, ◌∙◌}
+use mathlib.Core.List.{List, [], ◌∷◌, ◌++◌, append_assoc}
+use lib.ListN.{length, set, take, drop, length-append, length-drop}
+use lib.Seq.{sets, length-sets, sets-eq, set_comm, drop-drop, length-take-le}
+use borrow.Rule.Slice.PartMut.{put_mid}
+use Rattle.std.proofs.lemmas.List.{drop_all, append-nil}
+use Rattle.std.specs.Borrow.{MutBor}
+use Rattle.text.specs.Puts.{Puts, Begins, Writes}
+use Rattle.text.specs.declared.Writer.{Writer}
 
 -- stores from a place on, and then behind them
 pub sets-append : {A : Type 0} (l : List A) (i : ℕ) (a b : List A) → sets (sets l i a) (i + length a) b ≡ sets l i (a ++ b)
@@ -30,21 +34,21 @@ sets-front l a h =
     let e : 0 + length a ≡ length a = omega arith in
     sets-eq a l 0 (omega arith) ∙ ap (λ (k : ℕ). a ++ drop k l) e
 
-pub drop_past : {A : Type 0} (n : ℕ) (l : List A) → length l ≤ n → drop n l ≡ []
-drop_past zero [] h = refl
-drop_past (suc n) [] h = refl
-drop_past zero (x ∷ l) h = absurd (omega arith)
-drop_past (suc n) (x ∷ l) h = drop_past n l (omega arith)
+-- stores in every place
+pub sets-whole : {A : Type 0} (l a : List A) → length a ≡ length l → sets l 0 a ≡ a
+sets-whole l a e =
+    let k : length l ≤ length a = omega arith in
+    sets-front l a (omega arith) ∙ ap (λ (r : List _). a ++ r) (drop_all (length a) l k) ∙ append-nil a
 
--- one byte of a text more, and none
-pub one_byte : (out text : List ℕ) (to i : ℕ) → i < length text → sets (set out to (get_or text i 0)) (to + 1) (drop (i + 1) text) ≡ sets out to (drop i text)
-one_byte out text to i h =
-    let e : to + 1 ≡ suc to = omega arith in
-    let f : i + 1 ≡ suc i = omega arith in
-    ap₂ (λ (k j : ℕ). sets (set out to (get_or text i 0)) k (drop j text)) e f ∙ sym (ap (sets out to) (drop-cons text i 0 h))
+-- how long a part is
+pub part-length : {A : Type 0} (l : List A) (i n : ℕ) → i + n ≤ length l → length (take (i + n - i) (drop i l)) ≡ n
+part-length l i n h = length-take-le (i + n - i) (drop i l) (omega (arith, length-drop i l)) ∙ omega arith
 
-pub no_byte : (out text : List ℕ) (to i : ℕ) → length text ≤ i → out ≡ sets out to (drop i text)
-no_byte out text to i h = ap (sets out to) (sym (drop_past i text h))
+-- a list written over a part of another
+pub put_mid-sets : {A : Type 0} (l : List A) (i : ℕ) (a : List A) {b : List A} (k : ℕ) → k ≡ length a → i + length a ≤ length l → b ≡ a → put_mid i k l b ≡ sets l i a
+put_mid-sets {A} l i a k long fits e =
+    ap₂ (λ (m r : List A). take i l ++ (m ++ r)) e (drop-drop k i l ∙ ap (λ (n : ℕ). drop (i + n) l) long)
+    ∙ sym (sets-eq a l i fits ∙ append_assoc (take i l) a (drop (i + length a) l))
 
 -- ---- a text that is being written
 
@@ -60,29 +64,45 @@ module _ {t : List ℕ} {at : ℕ} {out : List ℕ} {r : ℕ} {out' : List ℕ} 
         list = q.list ∙ ap₂ (λ (l : List ℕ) (k : ℕ). sets l k u) p.list p.end ∙ sets-append out at t u;
       }
 
--- of a text from a place on, some is written; what is left of it is to be written now
-pub record Left (text₀ : List ℕ) (at₀ : ℕ) (out₀ : List ℕ) (text : List ℕ) (at : ℕ) (out : List ℕ) : Type 0 where
-  pub end : at + length text ≡ at₀ + length text₀
-  pub list : sets out at text ≡ sets out₀ at₀ text₀
+-- the same at a writer
+pub writes_then : {t u : List ℕ} {w w' w'' : Writer} → Writes t w w' → Writes u w' w'' → Writes (t ++ u) w w''
+writes_then p q = record { same_reference = q.same_reference ∙ p.same_reference; put = puts_then p.put q.put }
 
-pub left-all : (text : List ℕ) (at : ℕ) (out : List ℕ) → Left text at out text at out
-left-all text at out = record { end = refl; list = refl }
+pub writes-length : {t : List ℕ} {w w' : Writer} → Writes t w w' → length w'.out.now ≡ length w.out.now
+writes-length p = puts-length p.put
 
-module _ {text₀ : List ℕ} {at₀ : ℕ} {out₀ : List ℕ} where
-  pub left-length : {text : List ℕ} {at : ℕ} {out : List ℕ} → Left text₀ at₀ out₀ text at out → length out ≡ length out₀
-  left-length {text} {at} {out} l = sym (length-sets out at text) ∙ ap length l.list ∙ length-sets out₀ at₀ text₀
+-- of what a writer is to write, some is written; the text that is left is to be written now
+pub record Left (whole : List ℕ) (w₀ : Writer) (text : List ℕ) (w : Writer) : Type 0 where
+  pub same_reference : w.out.ghost_name ≡ w₀.out.ghost_name
+  pub end : w.len + length text ≡ w₀.len + length whole
+  pub list : sets w.out.now w.len text ≡ sets w₀.out.now w₀.len whole
 
-  pub left-none : {at : ℕ} {out : List ℕ} → Left text₀ at₀ out₀ [] at out → at ≤ length out₀ → Puts text₀ at₀ out₀ at out
-  left-none {at} {out} l h = let e : at ≡ at + 0 = omega arith in record { fits = omega (arith, l.end); end = e ∙ l.end; list = l.list }
+module _ {whole : List ℕ} {w₀ : Writer} where
+  pub left-none : {w : Writer} → Left whole w₀ [] w → w.len ≤ length w.out.now → Writes whole w₀ w
+  left-none {w} l h =
+      let e : w.len ≡ w.len + 0 = omega arith in
+      let long : length w.out.now ≡ length w₀.out.now = ap length l.list ∙ length-sets w₀.out.now w₀.len whole in
+      record { same_reference = l.same_reference; put = record { fits = omega (arith, l.end); end = e ∙ l.end; list = l.list } }
 
   -- a part of what is left is written
-  pub left-some : {t u : List ℕ} {at : ℕ} {out : List ℕ} {r : ℕ} {out' : List ℕ} → Left text₀ at₀ out₀ (t ++ u) at out → Puts t at out r out' → Left text₀ at₀ out₀ u r out'
-  left-some {t} {u} {at} {out} {r} {out'} l p =
+  pub left-some : {t u : List ℕ} {w w' : Writer} → Left whole w₀ (t ++ u) w → Writes t w w' → Left whole w₀ u w'
+  left-some {t} {u} {w} {w'} l p =
       record {
-        end = omega (arith, l.end, p.end, length-append t u);
-        list = ap₂ (λ (x : List ℕ) (k : ℕ). sets x k u) p.list p.end ∙ sets-append out at t u ∙ l.list;
+        same_reference = p.same_reference ∙ l.same_reference;
+        end = omega (arith, l.end, p.put.end, length-append t u);
+        list = ap₂ (λ (x : List ℕ) (k : ℕ). sets x k u) p.put.list p.put.end ∙ sets-append w.out.now w.len t u ∙ l.list;
       }
 
 -- what was written at the front
 pub puts-front : {t : List ℕ} {out : List ℕ} {r : ℕ} {out' : List ℕ} → Puts t 0 out r out' → (r ≡ length t) × (out' ≡ t ++ drop (length t) out)
 puts-front {t} {out} {r} {out'} p = (omega (arith, p.end), p.list ∙ sets-front out t (omega (arith, p.fits)))
+
+-- what a writer that began at the front wrote
+pub writes-front : {t : List ℕ} {out : MutBor (List ℕ)} {w w' : Writer} → Begins out w → Writes t w w' → (w'.len ≡ length t) × (w'.out.now ≡ t ++ drop (length t) out.now)
+writes-front {t} {out} {w} {w'} b p =
+    puts-front
+    (record {
+      fits = omega (arith, b.front, ap length b.bytes, p.put.fits);
+      end = omega (arith, b.front, p.put.end);
+      list = p.put.list ∙ ap₂ (λ (l : List ℕ) (k : ℕ). sets l k t) b.bytes b.front;
+    })

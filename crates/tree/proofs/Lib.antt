@@ -16,3 +16,4 @@ pub mod Levels
 pub mod Table
 pub mod Outside
 pub mod Overwrite
+pub mod Outcomes

@@ -7,11 +7,14 @@ use lib.IntN.{pos, negsuc}
 use lib.ListN.{length}
 use lib.Dec.{ltb}
 use lib.Ieee.{Float, nan, inf, fin, to_bits, size, sub, add, neg, mul, sum, round, le, lt, eq}
+use Rattle.std.proofs.Common.{Ok, Err}
 use Rattle.bits.specs.Key.{key}
 use Rattle.bits.specs.Finite.{finite}
 use Rattle.space.specs.declared.Point3f.{Point3f}
 use Rattle.space.specs.Distance.{apart, left_is_near}
 use Rattle.tree.specs.Refuse.{Outcome, refused, gives, refuse, returned, left, count, ragged, uneven, mismatched, too_many, short, has_none, any_entry_outside, any_index_outside, overwrite, on_cloud, on_tree}
+use Rattle.tree.specs.Refusal.{outcome_of}
+use Rattle.tree.specs.declared.Refusal.TheVariants.{UnfitLengths, TooMany, ShortOutput, NothingToMatch, OutsideIndex}
 use Rattle.tree.specs.Slots.{Slot, slot, rank, slots, numbers_of, indices_of}
 use Rattle.tree.specs.Part.{Part, empty, split, laid, part_of, lent}
 use Rattle.tree.specs.Sort.{sort, insert}
@@ -264,6 +267,11 @@ outcomes = (refl, refl, refl, refl, refl)
 
 told : (returned length (tried true false) ≡ refused 1) × (returned length (tried false false) ≡ gives 2)
 told = (refl, refl)
+
+-- each refusal of an entry has its number, and a value is given
+cases : (outcome_of {A = ℕ} (Err UnfitLengths) ≡ refused 1) × (outcome_of {A = ℕ} (Err TooMany) ≡ refused 2) × (outcome_of {A = ℕ} (Err ShortOutput) ≡ refused 3)
+    × (outcome_of {A = ℕ} (Err NothingToMatch) ≡ refused 4) × (outcome_of {A = ℕ} (Err OutsideIndex) ≡ refused 5) × (outcome_of {A = ℕ} (Ok 7) ≡ gives 7)
+cases = (refl, refl, refl, refl, refl, refl)
 
 -- "Tested in the order 1, 2, ..": a list long enough for 2 is too long for a row, so that these are told of every list
 module _ (cloud coords : List Float) (indices : List ℕ) (next : Outcome ℕ) where

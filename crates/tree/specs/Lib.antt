@@ -1,4 +1,6 @@
 pub mod Refuse
+pub mod Lent
+pub mod Refusal
 pub mod Slots
 pub mod Part
 pub mod Sort

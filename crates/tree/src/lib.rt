@@ -1,35 +1,47 @@
-// The tree's constants, and what is read of clouds and match lists by more than one layer above.
+// What is lent, and what is read of clouds and match lists by more than one layer above.
 #![tactic(auto)]
 
 ghost use Rattle.std.specs.Prelude.{◌≡◌, ◌+◌, ◌*◌, ◌<◌, length};
 ghost use Rattle.tree.specs.Slots.{point_at};
 ghost use Rattle.tree.specs.Cloud.{finite_point};
+ghost use Rattle.tree.specs.Refusal.{number_of};
 ghost use Rattle.tree.specs.Refuse.{any_entry_outside, any_index_outside};
-ghost use Rattle.tree.specs.Levels.{levels};
 
+mod kd_tree;
+mod point_cloud;
+
+pub use kd_tree::KdTree;
+pub use point_cloud::PointCloud;
 use space::Point3f;
+use thiserror::Error;
 
-// A k-d tree is lent as two slices, three coordinates and one index to a slot; the type holds its constants.
-#[derive(Clone, Copy)]
-pub struct KdTree {
-    pub len: u32,
+// Why an entry refuses what it was lent.
+#[derive(Clone, Copy, Debug, PartialEq, Eq, Error)]
+pub enum Refusal {
+    #[error("the lengths do not fit one another")]
+    UnfitLengths,
+    #[error("over 1,048,576 points or entries")]
+    TooMany,
+    #[error("a lent output is too short")]
+    ShortOutput,
+    #[error("the source or the target is empty")]
+    NothingToMatch,
+    #[error("an entry or an index names no point")]
+    OutsideIndex,
 }
 
-impl KdTree {
-    // A match entry of this value means no match, and as a seed no seed; the Rust's value for a missing child.
-    pub const NO_CHILD: u32 = 4294967295;
-
-    // The most points of a cloud, slots of a tree or entries of a match list.
-    pub const MAX_POINTS: usize = 1048576;
-
-    // Places on the stack of far parts that wait.
-    pub const MAX_STACK: usize = 32;
-
-    // How many levels a tree of m slots has.
-    pub fn levels(m: u32) -> u32
-        ensures { result ≡ levels m }
+impl Refusal {
+    // The number that stands for it in other languages.
+    pub fn number(self) -> u32
+        ensures { result ≡ number_of self }
     {
-        32 - u32::leading_zeros(m)
+        match self {
+            Refusal::UnfitLengths => 1,
+            Refusal::TooMany => 2,
+            Refusal::ShortOutput => 3,
+            Refusal::NothingToMatch => 4,
+            Refusal::OutsideIndex => 5,
+        }
     }
 }
 
@@ -49,41 +61,21 @@ pub fn point_at(numbers: &[f32], i: usize) -> Point3f
 pub fn is_finite_point(p: Point3f) -> bool
     ensures { result ≡ finite_point p }
 {
-    if bits::is_finite(p.x) {
-        if bits::is_finite(p.y) {
-            return bits::is_finite(p.z);
-        }
-    }
-    false
+    bits::is_finite(p.x) && bits::is_finite(p.y) && bits::is_finite(p.z)
 }
 
 // Whether a seed or match entry is present and names no point of the n.
 pub fn any_entry_outside(n: usize, entries: &[u32]) -> bool
     ensures { result ≡ any_entry_outside n entries.now }
 {
-    let mut i: usize = 0;
-    while i < entries.len() {
-        let entry = entries[i];
-        if entry != KdTree::NO_CHILD {
-            if n <= entry as usize {
-                return true;
-            }
-        }
-        i += 1;
-    }
-    false
+    entries
+        .iter()
+        .any(|&entry| entry != KdTree::NO_CHILD && n <= entry as usize)
 }
 
 // Whether an index held in a tree names no point of the n; here 4,294,967,295 is an index like any other.
 pub fn any_index_outside(n: usize, indices: &[u32]) -> bool
     ensures { result ≡ any_index_outside n indices.now }
 {
-    let mut i: usize = 0;
-    while i < indices.len() {
-        if n <= indices[i] as usize {
-            return true;
-        }
-        i += 1;
-    }
-    false
+    indices.iter().any(|&index| n <= index as usize)
 }

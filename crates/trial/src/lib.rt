@@ -1,15 +1,30 @@
-// What the test programs share, and no part of the library: a sequence of numbers; counts written in decimal and floats as their
-// bits, a blank before each.
+// What the test programs share, and no part of the library: a sequence of numbers, and how lists and floats are written.
 #![tactic(auto)]
 
-use std::io;
+ghost use Rattle.std.specs.Iterator.{IsFinite};
 
-// The next number of a sequence.
-pub fn next(s: u32) -> u32 {
-    ((s as u64 * 1664525 + 1013904223) % 4294967296) as u32
+use std::{fmt, io};
+
+// A sequence without an end, each number from the one before.
+#[derive(Clone, Copy, Debug, PartialEq, Eq)]
+pub struct Sequence(u32);
+
+impl Sequence {
+    pub fn from_seed(seed: u32) -> Sequence {
+        Sequence(seed)
+    }
 }
 
-// A coordinate of the sequence: a whole number up to 65,535, times one of eight factors of both signs and many sizes.
+impl Iterator for Sequence {
+    type Item = u32;
+
+    fn next(&mut self) -> Option<u32> {
+        self.0 = self.0.wrapping_mul(1664525).wrapping_add(1013904223);
+        Some(self.0)
+    }
+}
+
+// A coordinate from a number of the sequence: a whole number up to 65,535, times one of eight factors of both signs and many sizes.
 pub fn coordinate(s: u32) -> f32 {
     let whole = (s / 65536) as u16 as f32;
     match s % 8 {
@@ -25,41 +40,51 @@ pub fn coordinate(s: u32) -> f32 {
 }
 
 pub fn fill(out: &mut [f32], seed: u32) {
-    let mut s = seed;
-    let mut i: usize = 0;
-    while i < out.len() {
-        s = next(s);
-        out[i] = coordinate(s);
-        i += 1;
+    for (x, s) in out.iter_mut().zip(Sequence::from_seed(seed)) {
+        *x = coordinate(s);
     }
 }
 
-pub fn line(rt: &impl Print) -> io::Result<()> {
-    println!(rt)
-}
+// Written as the bits of a float. Every NaN is one word, since a NaN's bits are not fixed. An impl for each of the two types, since
+// std has no trait of both; one of ours would be longer than the second impl.
+#[derive(Clone, Copy, Debug)]
+pub struct Bits<T>(pub T);
 
-pub fn word(rt: &impl Print, text: &[u8]) -> io::Result<()> {
-    rt.write_all(b" ")?;
-    rt.write_all(text)
-}
-
-pub fn count(rt: &impl Print, n: u64) -> io::Result<()> {
-    print!(rt; " {n}")
-}
-
-// Every NaN is written as one word, since a NaN's bits are not fixed.
-pub fn bits_f32(rt: &impl Print, x: f32) -> io::Result<()> {
-    if x != x {
-        return word(rt, b"nan");
+impl fmt::Display for Bits<f32> {
+    fn fmt<W: fmt::Write>(&self, f: &mut fmt::Formatter<W>) -> fmt::Result {
+        let x = self.0;
+        if x.is_nan() {
+            return write!(f, "nan");
+        }
+        let bits = x.to_bits();
+        write!(f, "{bits:08x}")
     }
-    let b = f32::to_bits(x);
-    print!(rt; " {b:08x}")
 }
 
-pub fn bits_f64(rt: &impl Print, x: f64) -> io::Result<()> {
-    if x != x {
-        return word(rt, b"nan");
+impl fmt::Display for Bits<f64> {
+    fn fmt<W: fmt::Write>(&self, f: &mut fmt::Formatter<W>) -> fmt::Result {
+        let x = self.0;
+        if x.is_nan() {
+            return write!(f, "nan");
+        }
+        let bits = x.to_bits();
+        write!(f, "{bits:016x}")
     }
-    let b = f64::to_bits(x);
-    print!(rt; " {b:016x}")
+}
+
+// Each item with a blank before it.
+pub fn write_each<I: Iterator + Drop>(rt: &impl Print, items: I) -> io::Result<()>
+where
+    I::Item: fmt::Display + Drop,
+    requires can { I.can_next items }
+    requires ends { IsFinite (I.remaining items) }
+{
+    for item in items {
+        print!(rt; " {item}")?;
+    }
+    Ok(())
+}
+
+pub fn write_floats(rt: &impl Print, floats: &[f32]) -> io::Result<()> {
+    write_each(rt, floats.iter().copied().map(Bits))
 }

@@ -1,3 +1,4 @@
 pub mod Stack
+pub mod Turns
 pub mod Built
 pub mod Table

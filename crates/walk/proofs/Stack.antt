@@ -168,7 +168,7 @@ module _ {S : Type 0} {visit : Slot → S → S} {enters : Float → S → Bool}
         ∙ going.left
 
     module _ (none_here : g.len ≡ 0) (more : free < places) where
-      top-off : slice free places stack ≡ top_of stack free ∷ slice (free + 1) places stack
+      pub top-off : slice free places stack ≡ top_of stack free ∷ slice (free + 1) places stack
       top-off = let a = going.few in let b = going.long in pop stack places free more (omega arith)
 
       -- the one on top is judged
@@ -246,10 +246,10 @@ entered-idle visit enters pl far s e = go (enters pl s)
 module _ (coords : List Float) (indices : List ℕ) {S : Type 0} {visit : Slot → S → S} {enters : Float → S → Bool} {q : Point3f} {goal : S} {stack : List Waiting} {places free : ℕ} {g : Group} {held : S}
     (going : Going visit enters q (slots coords indices) goal stack places free g held) (pos : 0 < g.len) (n : Node) (is-node : n ≡ node_of coords q g)
   where
-    parts : Split g n
+    pub parts : Split g n
     parts = rw is-node (node-split g (apart g.axis q (point_at coords g.start)) (distance_squared q (point_at coords g.start)) pos)
 
-    pushed : slice (free - 1) places (set stack (free - 1) n.far) ≡ n.far ∷ slice free places stack
+    pub pushed : slice (free - 1) places (set stack (free - 1) n.far) ≡ n.far ∷ slice free places stack
     pushed = let a = going.few in let b = going.long in let c = going.top in let p = place going pos in push stack places free n.far p.0 c (omega arith)
 
     pub kept_less : load n.near (slice (free - 1) places (set stack (free - 1) n.far)) < load g (slice free places stack)

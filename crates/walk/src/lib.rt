@@ -9,8 +9,12 @@ ghost use Rattle.walk.specs.Node.{node_by, node_of, waits};
 
 use space::Point3f;
 
+pub mod pruned;
+
+pub use pruned::{Search, pruned_walk};
+
 // A group of slots: where it starts, how many it has, and the axis that it is split on.
-#[derive(Clone, Copy)]
+#[derive(Clone, Copy, Debug, PartialEq, Eq)]
 pub struct Group {
     pub start: u32,
     pub len: u32,
@@ -18,14 +22,14 @@ pub struct Group {
 }
 
 // A far part that waits, with the squared distance to its plane.
-#[derive(Clone, Copy)]
+#[derive(Clone, Copy, Debug, PartialEq)]
 pub struct Waiting {
     pub group: Group,
     pub plane_sq: f32,
 }
 
 // The root of a group as the query sees it: its squared distance, and the two parts.
-#[derive(Clone, Copy)]
+#[derive(Clone, Copy, Debug, PartialEq)]
 pub struct Node {
     pub distance_sq: f32,
     pub near: Group,
@@ -97,7 +101,7 @@ impl Waiting {
     pub fn waits(self, entered: bool) -> bool
         ensures { result ≡ waits self entered }
     {
-        if self.group.len == 0 { false } else { entered }
+        self.group.len != 0 && entered
     }
 }
 
@@ -105,7 +109,7 @@ impl Waiting {
 pub fn infinity() -> f32
     ensures { result ≡ infinite }
 {
-    f32::from_bits(0x7f80_0000)
+    f32::INFINITY
 }
 
 fn pick(first: bool, a: u32, b: u32) -> u32

@@ -1,5 +1,5 @@
 -- `bits_run::judge` meets its contract: it tests what `judged` tests, in its order. Assumes nothing.
-use Rattle.std.proofs.Common.{◌≡◌, ℕ, ◌<◌, ◌≤◌, cond, ◌&&◌, eqb, ltb, List, length, sym, refl, ap, ◌∙◌, arith, le-ltb, lt-ltb, eq-eqb, ne_eqb}
+use Rattle.std.proofs.Common.{◌≡◌, ℕ, ◌<◌, cond, ◌&&◌, eqb, ltb, List, length, sym, ap, ◌∙◌, arith, lt-ltb, eq-eqb, ne_eqb}
 use mathlib.Core.Bool.{and-false}
 use Rattle.bits_run.specs.Record.{word_at, result_of, judged}
 use Rattle.bits_run.proofs.judge.Goals as goal
@@ -17,16 +17,6 @@ by-numbers s k x r y ek ex er ey =
     ∙ ap (λ (z : ℕ). verdict (length s) k (result_of k (word_at s 8)) z) ey
     ∙ ap (λ (z : ℕ). verdict (length s) z (result_of z (word_at s 8)) (word_at s 16)) ek
 
-short : (s : List ℕ) → (length s ≡ 24 → ⊥) → 0 ≡ judged s
-unfolding judged
-short s h = sym (rw (ne_eqb (length s) 24 h))
-
-unknown : (s : List ℕ) (k : ℕ) → k ≡ word_at s 0 → 8 ≤ k → 0 ≡ judged s
-unknown s k e h = none (length s) k (result_of k (word_at s 8)) (word_at s 16) h ∙ by-numbers s k (word_at s 8) (result_of k (word_at s 8)) (word_at s 16) e refl refl refl
-  where
-    none : (n k r y : ℕ) → 8 ≤ k → 0 ≡ verdict n k r y
-    none n k r y h = sym (rw (le-ltb k 8 h, and-false (eqb n 24)))
-
 differs : (n k r y : ℕ) → (r ≡ y → ⊥) → 0 ≡ verdict n k r y
 differs n k r y h = sym (rw (ne_eqb r y h, and-false (ltb k 8), and-false (eqb n 24)))
 
@@ -38,12 +28,6 @@ module _ (c : After-word-2) where
   same =
       by-numbers c.args.s.now c.word-kind.result c.word.result c.result.result c.word-2.result
       c.word-kind.ensures c.word.ensures c.result.ensures c.word-2.ensures
-
-pub returns-then-s-ne24 : goal.returns-then-s-ne24
-returns-then-s-ne24 c = (short c.args.s.now c.if-s-ne24.true, omega arith)
-
-pub returns-then-kind-ge8 : goal.returns-then-kind-ge8
-returns-then-kind-ge8 c = (unknown c.args.s.now c.word-kind.result c.word-kind.ensures c.if-kind-ge8.true, omega arith)
 
 pub returns-then-result-word : goal.returns-then-result-word
 returns-then-result-word c = (differs (length c.args.s.now) c.word-kind.result _ _ c.if-result-word.true ∙ same (goal.at.returns-then-result-word c).After-word-2, omega arith)

@@ -1,15 +1,15 @@
 -- `answer_read`: the bytes that were read decide.
+use Prim.Native.Nat.{ℕ, min}
 use native.Mathlib.Omega.{arith}
-use mathlib.Core.Path.{sym}
-use lib.Seq.{length-take-le}
-use Rattle.scan.proofs.Cut.{answers-read, answers-all}
+use mathlib.Core.Path.{◌≡◌, sym, ap, ◌∙◌}
+use lib.ListN.{take}
+use Rattle.std.proofs.lemmas.List.{take_min}
+use Rattle.scan.proofs.Cut.{answers-read}
 use Rattle.scan.proofs.answer_read.Goals as goal
 
-pub slice_bounds-answer-end : goal.slice_bounds-answer-end
-slice_bounds-answer-end c = sym (length-take-le _ _ (omega arith))
-
-pub returns-then-n-all : goal.returns-then-n-all
-returns-then-n-all c = let a = c.args in answers-read a.bytes.now a.n (omega arith) c.answer.ensures
-
-pub returns-else-n-all : goal.returns-else-n-all
-returns-else-n-all c = let a = c.args in answers-all a.bytes.now a.n (omega arith) (omega arith) c.answer-else-n-all.ensures
+pub returns : goal.returns
+returns c =
+    let B = c.args.bytes.now in
+    let n = c.args.n in
+    let same : take c.min.result B ≡ take n B = ap (λ (k : ℕ). take k B) (c.min.ensures ∙ ap (min n) (sym c.told-bytes)) ∙ take_min n B in
+    answers-read B n (omega arith) (rw same at c.answer.ensures)

@@ -1,38 +1,13 @@
--- `any_index_outside`: the invariant is that what is asked of the whole list is asked of what is left.
-use native.Mathlib.Omega.{arith}
-use mathlib.Core.Path.{refl, ◌∙◌}
-use Rattle.tree.proofs.Outside.{index-met, index-inside, indices-done}
+-- `any_index_outside`: the test of each index is that of the rule.
+use Rattle.std.proofs.Common.{not, ltb, rules, tests}
+use mathlib.Core.Path.{◌∙◌}
+use Rattle.std.proofs.lemmas.Iterator.{YieldsList-from_slice}
+use Rattle.std.proofs.lemmas.Iterator.Search.{any_from_yields_List}
+use Rattle.tree.proofs.Outside.{indices-any}
 use Rattle.tree.proofs.any_index_outside.Goals as goal
 
-pub loop-i-init : goal.loop-i-init
-loop-i-init c = (omega arith, refl)
-
-pub offset_bounds-indices-i : goal.offset_bounds-indices-i
-offset_bounds-indices-i c = omega arith
-
-pub bounds-indices-i : goal.bounds-indices-i
-bounds-indices-i c = omega arith
-
-pub overflow_cast-indices : goal.overflow_cast-indices
-overflow_cast-indices c = omega (arith, c.type_inv.indices c.loop-i.i)
-
-pub returns-then-n-indices : goal.returns-then-n-indices
-returns-then-n-indices c =
-    let l = c.loop-i in
-    let a = c.args in
-    index-met a.n a.indices.now l.i (omega arith) (omega arith) ∙ l.invariant.1
-
-pub overflow_add-i : goal.overflow_add-i
-overflow_add-i c = omega arith
-
-pub loop-i-smaller : goal.loop-i-smaller
-loop-i-smaller c = omega arith
-
-pub loop-i-preserved : goal.loop-i-preserved
-loop-i-preserved c =
-    let l = c.loop-i in
-    let a = c.args in
-    (omega arith, index-inside a.n a.indices.now l.i (omega arith) (omega arith) ∙ l.invariant.1)
-
 pub returns : goal.returns
-returns c = let l = c.loop-i in let a = c.args in indices-done a.n a.indices.now l.i (omega arith) (omega arith) ∙ l.invariant.1
+returns c =
+    let a = c.args in
+    any_from_yields_List (λ i. not (ltb i a.n)) _ _ _ c.any.ensures.ran (YieldsList-from_slice a.indices.now cc) (λ x b q k. search (rules, tests))
+    ∙ indices-any a.n a.indices.now

@@ -1,46 +1,46 @@
-use Rattle.std.proofs.Common.{◌<◌, le-add_right, lt_of_le_of_lt, arith}
-use Rattle.bits.proofs.RootCode.{Found, within, sum_fits, rounds-up, rounds-down}
-use Rattle.bits.proofs.root.root_bits.Goals as goal
-use Rattle.bits.proofs.root.root_bits.Goals.{After-first_digits-d, After-highest-top}
-
 -- `bits::root::root_bits` meets its contract. Assumes nothing.
+use Rattle.std.proofs.Common.{◌≡◌, ◌<◌, ℕ, sym, ◌∙◌, subst, le-add_right, lt_of_le_of_lt, arith}
+use native.Mathlib.Nat.{pow-succ'}
+use lib.Ieee.{prec}
+use Rattle.bits.proofs.RootCode.{Found, sum_fits, rounds-up, rounds-down}
+use Rattle.bits.proofs.RootScaled.{Roomy, roomy}
+use Rattle.bits.proofs.root.root_bits.Goals as goal
+use Rattle.bits.proofs.root.root_bits.Goals.{After-first-d, After-ilog2-top}
+use Rattle.bits.proofs.root.root_bits.Given.{Over}
+
+precision : (g : Over) (c : After-ilog2-top g) → prec g.F.Binary.format ≡ c.PRECISION-p.result
+precision g c = g.F.Binary.precision_is ∙ sym c.PRECISION-p.ensures
+
+inside : (g : Over) (c : After-ilog2-top g) → Roomy c.PRECISION-p.result c.to_scaled-n.result.digits c.to_scaled-n.result.exponent
+inside g c = roomy g.F.Binary.format c.args.b _ _ _ (precision g c) c.to_scaled-n.ensures
+
 -- what is known once the digits are found
-found : (c : After-first_digits-d) → Found c.args.p c.args.n.digits c.args.n.exponent c.highest-top.result c.first_digits-d.result.root c.first_digits-d.result.rest c.first_digits-d.result.ahead
-found c =
-    let pre = c.requires in
+found : (g : Over) (c : After-first-d g)
+    → Found c.PRECISION-p.result c.to_scaled-n.result.digits c.to_scaled-n.result.exponent c.ilog2-top.result c.first-d.result.root c.first-d.result.rest c.first-d.result.ahead
+found g c =
+    let k = inside g (goal.at-After-first-d g c).After-ilog2-top in
     record {
-      few = pre.2;
-      held = pre.1;
-      room = pre.3;
-      bound = pre.4;
-      lo = c.highest-top.ensures.0;
-      hi = c.highest-top.ensures.1;
-      digits = c.first_digits-d.ensures.0;
-      small = c.first_digits-d.ensures.1;
-      fitting = c.first_digits-d.ensures.2;
+      few = k.few;
+      held = k.held;
+      room = k.room;
+      bound = k.bound;
+      lo = c.ilog2-top.ensures.power_le;
+      hi = subst (λ (x : ℕ). c.to_scaled-n.result.digits < x) (sym (pow-succ' 2 c.ilog2-top.result)) c.ilog2-top.ensures.next_power_gt;
+      digits = c.first-d.ensures.number.number;
+      small = c.first-d.ensures.number.largest;
+      fitting = c.first-d.ensures.length;
       ahead = omega arith;
     }
 
-top_within : (c : After-highest-top) → c.highest-top.result < c.args.p
-top_within c = within c.args.n.digits c.args.p c.highest-top.result c.highest-top.ensures.0 c.requires.1
-
-pub overflow_add-excess-2 : goal.overflow_add-excess-2
-overflow_add-excess-2 c = let h = top_within (goal.at.overflow_add-excess-2 c).After-highest-top in omega arith
-
-pub overflow_sub-top : goal.overflow_sub-top
-overflow_sub-top c = let h = top_within (goal.at.overflow_sub-top c).After-highest-top in omega arith
-
-pub overflow_sub-bits : goal.overflow_sub-bits
-overflow_sub-bits c = let h = top_within (goal.at.overflow_sub-bits c).After-highest-top in omega arith
-
 pub overflow_add-bits : goal.overflow_add-bits
-overflow_add-bits c = record { fits = lt_of_le_of_lt (le-add_right _ 1) (sum_fits _ _ _ _ _ _ _ (found (goal.at.overflow_add-bits c).After-first_digits-d)) }
-
-pub overflow_add-result : goal.overflow_add-result
-overflow_add-result c = record { fits = sum_fits _ _ _ _ _ _ _ (found (goal.at.overflow_add-result c).After-first_digits-d) }
+overflow_add-bits g c = record { fits = lt_of_le_of_lt (le-add_right _ 1) (sum_fits _ _ _ _ _ _ _ (found g (goal.at.overflow_add-bits g c).After-first-d)) }
 
 pub returns-then-d : goal.returns-then-d
-returns-then-d c = λ f x e n v. rounds-up f x _ _ _ _ _ _ _ e n v (found (goal.at.returns-then-d c).After-first_digits-d) c.if-d.true
+returns-then-d g c =
+    let s = c.to_scaled-n.ensures in
+    rounds-up g.F.Binary.format _ _ _ _ _ _ _ _ (precision g (goal.at.returns-then-d g c).After-ilog2-top) s.most s.value (found g (goal.at.returns-then-d g c).After-first-d) c.if-d.true
 
 pub returns-else-d : goal.returns-else-d
-returns-else-d c = λ f x e n v. rounds-down f x _ _ _ _ _ _ _ e n v (found (goal.at.returns-else-d c).After-first_digits-d) c.if-d.false
+returns-else-d g c =
+    let s = c.to_scaled-n.ensures in
+    rounds-down g.F.Binary.format _ _ _ _ _ _ _ _ (precision g (goal.at.returns-else-d g c).After-ilog2-top) s.most s.value (found g (goal.at.returns-else-d g c).After-first-d) c.if-d.false

@@ -1,9 +1,8 @@
-use Rattle.std.proofs.Common.{◌≡◌, ◌+◌, ◌*◌, ◌^◌, false, T, sym, refl, subst}
-use lib.Ieee.{Float, binary32, low, to_bits, fits}
-use lib.Ieee.Bits.{of_bits-to_bits}
-use lib.Ieee.Exact.{HasValue}
+use Rattle.std.proofs.Common.{◌≡◌, T, sym, ap, ◌∙◌, subst, arith}
+use lib.Ieee.{Float, binary32, to_bits, fits}
+use lib.Ieee.Bits.{of_bits-to_bits, to_bits-lt}
 use Rattle.bits.specs.Root.{root}
-use Rattle.bits.proofs.RootBits.{no_nan, bits_pos, bits-under, infinite-root, negative-root, own_root, root-back, root-pattern, root-width}
+use Rattle.bits.proofs.RootBits.{bits_pos, bits-under, infinite-root, negative-root, own_root, root-back, root-pattern, root-width}
 use Rattle.bits.proofs.root.sqrt_f32.Goals as goal
 use Rattle.bits.proofs.root.sqrt_f32.Goals.{After-root_bits, Start}
 
@@ -13,22 +12,18 @@ held c = subst T (sym c.well_formed.0.1) tt
 
 -- the bits that the code makes are those of the root
 made : (c : After-root_bits) → c.root_bits.result ≡ to_bits binary32 (root binary32 c.args.x)
-made c =
-    let x = c.args.x in
-    let s = c.scaled_f32 in
-    c.root_bits.ensures binary32 x refl s.ensures.3
-    (subst (λ (y : Float). HasValue y false (s.result.digits * 2 ^ s.result.exponent) (2 ^ (low binary32 + low binary32))) (of_bits-to_bits binary32 x (held (goal.at-After-root_bits c).Start)) s.ensures.4)
-
-pub float_to_bits-b : goal.float_to_bits-b
-float_to_bits-b c = no_nan binary32 c.args.x c.if-x.true
+made c = c.root_bits.ensures ∙ ap (λ (y : Float). to_bits binary32 (root binary32 y)) (of_bits-to_bits binary32 c.args.x (held (goal.at-After-root_bits c).Start))
 
 pub returns-then-b-eq2139095040 : goal.returns-then-b-eq2139095040
 returns-then-b-eq2139095040 c = infinite-root binary32 c.args.x (held (goal.at.returns-then-b-eq2139095040 c).Start) c.if-b-eq2139095040.true
 
-pub scaled_f32-requires : goal.scaled_f32-requires
-scaled_f32-requires c =
+pub overflow_cast-b : goal.overflow_cast-b
+overflow_cast-b c = record { fits = omega (arith, to_bits-lt binary32 c.args.x (held (goal.at.overflow_cast-b c).Start)) }
+
+pub root_bits-requires : goal.root_bits-requires
+root_bits-requires c =
     let x = c.args.x in
-    let h = held (goal.at.scaled_f32-requires c).Start in
+    let h = held (goal.at.root_bits-requires c).Start in
     (bits_pos binary32 x h c.if-x.true, bits-under binary32 x h c.if-x.true c.if-b-eq2139095040.false)
 
 pub overflow_cast-result : goal.overflow_cast-result

@@ -1,9 +1,8 @@
-use Rattle.std.proofs.Common.{◌≡◌, ◌+◌, ◌*◌, ◌^◌, false, T, sym, refl, subst}
-use lib.Ieee.{Float, binary64, low, to_bits, fits}
+use Rattle.std.proofs.Common.{◌≡◌, T, sym, ap, ◌∙◌, subst}
+use lib.Ieee.{Float, binary64, to_bits, fits}
 use lib.Ieee.Bits.{of_bits-to_bits}
-use lib.Ieee.Exact.{HasValue}
 use Rattle.bits.specs.Root.{root}
-use Rattle.bits.proofs.RootBits.{no_nan, bits_pos, bits-under, infinite-root, negative-root, own_root, root-back, root-pattern}
+use Rattle.bits.proofs.RootBits.{bits_pos, bits-under, infinite-root, negative-root, own_root, root-back, root-pattern}
 use Rattle.bits.proofs.root.sqrt_f64.Goals as goal
 use Rattle.bits.proofs.root.sqrt_f64.Goals.{After-root_bits, Start}
 
@@ -13,22 +12,15 @@ held c = subst T (sym c.well_formed.0.1) tt
 
 -- the bits that the code makes are those of the root
 made : (c : After-root_bits) → c.root_bits.result ≡ to_bits binary64 (root binary64 c.args.x)
-made c =
-    let x = c.args.x in
-    let s = c.scaled_f64 in
-    c.root_bits.ensures binary64 x refl s.ensures.3
-    (subst (λ (y : Float). HasValue y false (s.result.digits * 2 ^ s.result.exponent) (2 ^ (low binary64 + low binary64))) (of_bits-to_bits binary64 x (held (goal.at-After-root_bits c).Start)) s.ensures.4)
-
-pub float_to_bits-b : goal.float_to_bits-b
-float_to_bits-b c = no_nan binary64 c.args.x c.if-x.true
+made c = c.root_bits.ensures ∙ ap (λ (y : Float). to_bits binary64 (root binary64 y)) (of_bits-to_bits binary64 c.args.x (held (goal.at-After-root_bits c).Start))
 
 pub returns-then-b-eq9218868437227405312 : goal.returns-then-b-eq9218868437227405312
 returns-then-b-eq9218868437227405312 c = infinite-root binary64 c.args.x (held (goal.at.returns-then-b-eq9218868437227405312 c).Start) c.if-b-eq9218868437227405312.true
 
-pub scaled_f64-requires : goal.scaled_f64-requires
-scaled_f64-requires c =
+pub root_bits-requires : goal.root_bits-requires
+root_bits-requires c =
     let x = c.args.x in
-    let h = held (goal.at.scaled_f64-requires c).Start in
+    let h = held (goal.at.root_bits-requires c).Start in
     (bits_pos binary64 x h c.if-x.true, bits-under binary64 x h c.if-x.true c.if-b-eq9218868437227405312.false)
 
 pub float_from_bits-result : goal.float_from_bits-result

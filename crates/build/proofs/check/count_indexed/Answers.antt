@@ -1,21 +1,18 @@
--- `count_indexed` counts the indexed points, point by point.
-use mathlib.Core.Path.{sym, ap, ◌∙◌}
-use Prim.Native.Nat.{◌+◌}
-use native.Mathlib.Omega.{arith}
-use lib.ListN.{length}
-use borrow.Author.Rules.{rules}
-use Rattle.tree.proofs.Cloud.{up_to-zero, up_to-all, up_to-length}
-use Rattle.build.proofs.Descending.{counted-further}
+-- `count_indexed` counts the indexed points.
+use Rattle.std.proofs.Common.{◌∙◌, ap, length, arith, rules, tests}
+use Rattle.std.proofs.lemmas.Iterator.{YieldsList-from_range}
+use Rattle.std.proofs.lemmas.Iterator.Consumers.{YieldsList-from_filter, count_from_yields_List}
+use Rattle.tree.specs.Slots.{point_at}
+use Rattle.tree.specs.Cloud.{finite_point}
+use Rattle.tree.specs.Refuse.{count}
+use Rattle.tree.proofs.Cloud.{up_to-all}
+use Rattle.build.proofs.Descending.{counted}
 use Rattle.build.proofs.check.count_indexed.Goals as goal
 
-pub loop-i-init : goal.loop-i-init
-loop-i-init c = (search rules, sym (ap length (up_to-zero c.args.cloud.now)))
-
-pub overflow_add-m : goal.overflow_add-m
-overflow_add-m c = omega (arith, counted-further c.args.cloud.now c.loop-i.i c.loop-i.m c.one_indexed-m.result (search rules) c.loop-i.invariant.1 c.one_indexed-m.ensures, up_to-length c.args.cloud.now (c.loop-i.i + 1))
-
-pub loop-i-preserved : goal.loop-i-preserved
-loop-i-preserved c = (search rules, counted-further c.args.cloud.now c.loop-i.i c.loop-i.m c.one_indexed-m.result (search rules) c.loop-i.invariant.1 c.one_indexed-m.ensures)
-
 pub returns : goal.returns
-returns c = c.loop-i.invariant.1 ∙ ap length (up_to-all c.args.cloud.now c.loop-i.i (search rules))
+returns c =
+    let cloud = c.args.cloud.now in
+    count_from_yields_List c.filter.result _ c.count.ensures.ran
+    (YieldsList-from_filter _ (λ i. finite_point (point_at cloud i)) (YieldsList-from_range 0 (count cloud) (count cloud) (cc) (omega arith)) c.filter.ensures.closure (λ x b q k. search (rules, tests)))
+    ∙ counted cloud (count cloud) (omega arith)
+    ∙ ap length (up_to-all cloud (count cloud) (omega arith))

@@ -1,21 +1,21 @@
 use mathlib.Core.Path.{ap, ◌∙◌}
 use Rattle.tree.specs.Refuse.{gives}
+use Rattle.tree.specs.Refusal.{outcome_of}
+use Rattle.tree.proofs.Outcomes.{handed_on, cloud-told, cloud-given}
+use Rattle.frame.specs.Moments.{moments_of}
 use Rattle.frame.specs.Entries.{centred_in}
-use Rattle.frame.proofs.Answers.{is-ragged, has-too-many, is-taken, frame_is}
+use Rattle.frame.proofs.Answers.{frame_is}
 use Rattle.frame.proofs.LocalFrame.centred_on.Goals as goal
 
 -- `LocalFrame::centred_on`: refusals 1 and 2 of a cloud, or the frame at its mean.
-pub returns-then-cloud-ne0 : goal.returns-then-cloud-ne0
+pub returns-in_err-cloud : goal.returns-in_err-cloud
 unfolding centred_in
-returns-then-cloud-ne0 c = is-ragged c.args.cloud.now _ c.if-cloud-ne0.true
-
-pub returns-then-cloud-gt-MAX_POINTS : goal.returns-then-cloud-gt-MAX_POINTS
-unfolding centred_in
-returns-then-cloud-gt-MAX_POINTS c = has-too-many c.args.cloud.now _ c.if-cloud-ne0.false c.if-cloud-gt-MAX_POINTS.true
+returns-in_err-cloud c = ap outcome_of (handed_on _ _ c.from_residual.ensures.1) ∙ cloud-told _ _ c.args.cloud.now c.in_err-cloud.ensures
 
 pub returns : goal.returns
 unfolding centred_in
 returns c =
     let cloud = c.args.cloud.now in
-    ap gives (frame_is cloud c.of.ensures c.mean-origin.ensures)
-    ∙ is-taken cloud _ c.if-cloud-ne0.false c.if-cloud-gt-MAX_POINTS.false
+    let m = c.of-2.ensures ∙ ap moments_of (cloud-given cloud c.in_ok-cloud.ensures).2 in
+    ap gives (frame_is cloud m c.mean-origin.ensures)
+    ∙ cloud-told _ _ cloud c.in_ok-cloud.ensures

@@ -4,4 +4,4 @@ use Rattle.frame.proofs.LocalFrame.point_to_local.Goals as goal
 
 pub returns : goal.returns
 unfolding local_point
-returns c = rw (c.narrowed.ensures, c.minus.ensures, c.of.ensures)
+returns c = rw (c.narrowed.ensures, c.minus.ensures, c.from.ensures)

@@ -1,40 +1,9 @@
--- `word`: each byte is below 256, so that nothing wraps.
-use Prim.Native.Nat.{◌+◌}
+-- `word`: the four bytes by their worth.
 use native.Mathlib.Omega.{arith}
-use borrow.Author.Rules.{rules}
+use mathlib.Core.Path.{◌∙◌}
 use Rattle.scan.specs.Input.{word}
 use Rattle.scan.proofs.input.word.Goals as goal
 
-pub overflow_cast-result : goal.overflow_cast-result
-overflow_cast-result c = omega (arith, c.type_inv.bytes c.args.at)
-
-pub overflow_cast-result-2 : goal.overflow_cast-result-2
-overflow_cast-result-2 c = omega (arith, c.type_inv.bytes (c.args.at + 1))
-
-pub overflow_mul-result : goal.overflow_mul-result
-overflow_mul-result c = omega (arith, c.type_inv.bytes c.args.at, c.type_inv.bytes (c.args.at + 1))
-
-pub overflow_add-result-2 : goal.overflow_add-result-2
-overflow_add-result-2 c = omega (arith, c.type_inv.bytes c.args.at, c.type_inv.bytes (c.args.at + 1))
-
-pub overflow_cast-result-3 : goal.overflow_cast-result-3
-overflow_cast-result-3 c = omega (arith, c.type_inv.bytes (c.args.at + 2))
-
-pub overflow_mul-result-2 : goal.overflow_mul-result-2
-overflow_mul-result-2 c = omega (arith, c.type_inv.bytes c.args.at, c.type_inv.bytes (c.args.at + 1), c.type_inv.bytes (c.args.at + 2))
-
-pub overflow_add-result-4 : goal.overflow_add-result-4
-overflow_add-result-4 c = omega (arith, c.type_inv.bytes c.args.at, c.type_inv.bytes (c.args.at + 1), c.type_inv.bytes (c.args.at + 2))
-
-pub overflow_cast-result-4 : goal.overflow_cast-result-4
-overflow_cast-result-4 c = omega (arith, c.type_inv.bytes (c.args.at + 3))
-
-pub overflow_mul-result-3 : goal.overflow_mul-result-3
-overflow_mul-result-3 c = omega (arith, c.type_inv.bytes c.args.at, c.type_inv.bytes (c.args.at + 1), c.type_inv.bytes (c.args.at + 2), c.type_inv.bytes (c.args.at + 3))
-
-pub overflow_add-result-6 : goal.overflow_add-result-6
-overflow_add-result-6 c = omega (arith, c.type_inv.bytes c.args.at, c.type_inv.bytes (c.args.at + 1), c.type_inv.bytes (c.args.at + 2), c.type_inv.bytes (c.args.at + 3))
-
 pub returns : goal.returns
 unfolding word
-returns c = search rules
+returns c = c.from_le_bytes.ensures ∙ omega arith

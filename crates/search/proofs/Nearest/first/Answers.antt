@@ -2,8 +2,8 @@
 use Rattle.search.proofs.Best.{kept, dropped}
 use Rattle.search.proofs.Nearest.first.Goals as goal
 
-pub returns-then-d-bound_sq : goal.returns-then-d-bound_sq
-returns-then-d-bound_sq c = kept _ _ _ _ c.in-Found.is c.if-d-bound_sq.true
+pub returns-in-Found : goal.returns-in-Found
+returns-in-Found c = kept _ _ _ _ c.in-Found.is c.if-d-bound_sq.true
 
-pub returns-else-d-bound_sq : goal.returns-else-d-bound_sq
-returns-else-d-bound_sq c = dropped _ _ _ _ c.in-Found.is c.if-d-bound_sq.false
+pub returns-in_default : goal.returns-in_default
+returns-in_default c = dropped _ _ _ _ c.in-Found.is c.if-d-bound_sq.false

@@ -1,9 +1,0 @@
--- `ongdhuse_find_k_nearest_into`: what k nearest answers and leaves, with squared distances.
-use Rattle.capi.proofs.Telling.{list-refused, list-given}
-use Rattle.capi.proofs.ongdhuse_find_k_nearest_into.Goals as goal
-
-pub returns-in-Refused : goal.returns-in-Refused
-returns-in-Refused c = list-refused c.in-Refused.is c.find_k_nearest_into.ensures.written
-
-pub returns-in-Count : goal.returns-in-Count
-returns-in-Count c = list-given c.in-Count.is c.find_k_nearest_into.ensures.written

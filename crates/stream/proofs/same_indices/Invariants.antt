@@ -1,9 +1,0 @@
--- `same_indices`: the walk along the list stays inside it.
-use Rattle.std.proofs.Common.{◌-◌, ◌≤◌, length}
-use Rattle.stream.proofs.same_indices.Given as goal
-
-abbrev pub invariant-loop-i : goal.invariant-loop-i
-invariant-loop-i g l = l.i ≤ length l.list
-
-abbrev pub decreases-loop-i : goal.decreases-loop-i
-decreases-loop-i g l = length l.list - l.i

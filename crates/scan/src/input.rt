@@ -54,7 +54,7 @@ pub fn read_header(bytes: &[u8]) -> Result<Counts, Refusal>
 // The numbers whose bytes are lent, written to the front of the other list. No zip with `chunks_exact`: of what is written behind an
 // adapter of `iter_mut` but `enumerate` nothing is known afterwards.
 pub fn read_numbers(bytes: &[u8], to: &mut [f32])
-    requires { length bytes.now ≤ 4 * length to.old }
+    requires { length bytes.now / 4 ≤ length to.old }
     ensures { to.new ≡ overwrite (Input.numbers bytes.now 0 (length bytes.now / 4)) to.old }
 {
     let n = bytes.len() / 4;

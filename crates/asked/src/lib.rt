@@ -9,11 +9,11 @@ use std::io::Read;
 use stream::{Answers, Kind};
 use tree::{KdTree, Refusal};
 
-// The slots that were built of a cloud.
+// The slots that were built of a cloud. They stand in lists that the caller lends: held here they would be copied with the struct.
 #[derive(Drop)]
-pub struct Slots {
-    coords: [f32; stream::NUMBERS],
-    indices: [u32; stream::POINTS],
+pub struct Slots<'a> {
+    coords: &'a [f32],
+    indices: &'a [u32],
     count: usize,
     ghost lent: { count ≤ 1025 },
 }
@@ -31,26 +31,29 @@ pub fn written(told: Result<usize, Refusal>, answers: &mut Answers<impl Read>) -
     0
 }
 
-impl Slots {
-    pub fn build(cloud: &[f32], answers: &mut Answers<impl Read>) -> Slots {
-        let mut coords = [0.0; stream::NUMBERS];
-        let mut indices = [0; stream::POINTS];
-        let built = build::build(cloud, &mut coords, &mut indices);
+impl<'a> Slots<'a> {
+    pub fn build(
+        cloud: &[f32],
+        coords: &'a mut [f32; stream::NUMBERS],
+        indices: &'a mut [u32; stream::POINTS],
+        answers: &mut Answers<impl Read>,
+    ) -> Slots<'a> {
+        let built = build::build(cloud, coords, indices);
         answers.tally(Kind::Build);
         let count = written(built, answers);
         Slots {
-            coords,
-            indices,
+            coords: &coords[..3 * count],
+            indices: &indices[..count],
             count,
         }
     }
 
-    pub fn coords(&self) -> &[f32] {
-        &self.coords[..3 * self.count]
+    pub fn coords(&self) -> &'a [f32] {
+        self.coords
     }
 
-    pub fn indices(&self) -> &[u32] {
-        &self.indices[..self.count]
+    pub fn indices(&self) -> &'a [u32] {
+        self.indices
     }
 
     fn nearest(&self, query: Point3f, answers: &mut Answers<impl Read>) {
@@ -185,7 +188,9 @@ pub fn replay(answers: &mut Answers<impl Read>) {
     let mut numbers = [0.0; stream::NUMBERS];
     let cloud = &mut numbers[..3 * n];
     answers.read_floats(cloud);
-    let slots = Slots::build(cloud, answers);
+    let mut coords = [0.0; stream::NUMBERS];
+    let mut indices = [0; stream::POINTS];
+    let slots = Slots::build(cloud, &mut coords, &mut indices, answers);
     answers.same_word(slots.count as u32);
     slots.check(cloud, layout, answers);
     for _ in 0..queries {

@@ -3,6 +3,7 @@ pub mod Compare
 pub mod Keys
 pub mod Tests
 pub mod Pattern
+pub mod Narrowing
 pub mod NextUp
 pub mod Std
 pub mod Least

@@ -1,12 +1,15 @@
--- Bit patterns, in either format: that of a value of q * 2 ^ k units, and the fields of one with a sign. Assumes nothing.
-use Rattle.std.proofs.Common.{◌≡◌, ℕ, zero, suc, ◌+◌, ◌-◌, ◌*◌, ◌/◌, ◌%◌, ◌^◌, ◌<◌, ◌≤◌, Bool, true, false, cond, leb, ap, ◌∙◌, le_trans, le_of_eq, lt_of_lt_of_le, le-add_right, lt_of_le_of_lt, add_assoc, lt_irrefl, mul-le-mul_right, mod-eq_of_lt, zero-lt-suc, lt_of_not-le, zero-add, mul-div_cancel, arith, le→leb, pow_pos, pow_mono, pow-add, shl_lt}
-use native.Mathlib.Nat.{add-mod_left, mul-add-mod_self_left}
-use lib.Arith.{lt→nleb}
-use lib.Ieee.{Float, nan, inf, fin, Format, prec, low, hid, ones, top, up, down, size, of_fields, to_bits, of_bits}
-use lib.Ieee.Bits.{is_true, is_false}
+-- What `round` gives, as a bit pattern: the digits kept added to the exponent's field times its weight, so that a carry out of the digits
+-- raises the field by itself. For either format. Assumes nothing.
+use Rattle.std.proofs.Common.{◌≡◌, ℕ, zero, suc, ◌+◌, ◌-◌, ◌*◌, ◌/◌, ◌%◌, ◌^◌, ◌<◌, ◌≤◌, Bool, true, false, cond, ltb, leb, sym, refl, ap, ◌∙◌, subst, inl, inr, le_trans, le_of_eq, lt_of_lt_of_le, le-add_right, lt_of_le_of_lt, add_assoc, lt_irrefl, mul-le-mul_right, mod-eq_of_lt, zero-lt-suc, mul_assoc, suc-mul, mul_comm, div-lt_iff_lt-mul, eq-or-lt_of_le, mul-pos, lt_of_not-le, le-div_iff_mul-le, zero-add, mul-div_cancel, mul_left_comm, arith, le→leb, lt→ltb, pow_pos, pow_mono, pow-add, shl_lt}
+use Prim.Native.Nat.{compare}
+use native.Mathlib.Nat.{add-mod_left, mul-add-mod_self_left, pow-succ'}
+use lib.Arith.{le→nltb, lt→nleb}
+use lib.Ieee.{Float, nan, inf, fin, Format, prec, emax, low, hid, ones, top, up, down, size, odd, units, round, of_fields, to_bits, of_bits}
+use lib.Ieee.Bits.{of_bits-to_bits, is_true, is_false}
 use lib.Ieee.Digits.{size-lt, size-le}
-use lib.Ieee.Exact.{HasValue}
-use lib.Ieee.Fits.{down_pos, two, two-le_pos}
+use lib.Ieee.Exact.{HasValue, odd_sign}
+use lib.Ieee.Fits.{down_pos, odd-fits, nearest-le, round_is, two, two-le_pos}
+use lib.Ieee.Nearest.{closest, closest_same, div_same, nearest-ge}
 
 pow_lt_back : (i p : ℕ) → 2 ^ i < 2 ^ p → i < p
 pow_lt_back i p h = lt_of_not-le (λ (g : p ≤ i). lt_irrefl (2 ^ i) (lt_of_lt_of_le h (pow_mono g)))
@@ -38,6 +41,86 @@ bits_of_value f (fin t m e) s q k Q K v =
     ∙ ap (λ (j : ℕ). cond s (top f) 0 + j * hid f + a / 2 ^ j) d
     ∙ ap (λ (y : ℕ). cond s (top f) 0 + k * hid f + y) (mul-div_cancel q (pow_pos k))
     ∙ add_assoc (cond s (top f) 0) (k * hid f) q
+
+suc-pred : (p : ℕ) → 0 < p → suc (p - 1) ≡ p
+suc-pred p h = omega arith
+
+twice_hid : (p : ℕ) → 0 < p → 2 ^ p ≡ 2 ^ (p - 1) * 2
+twice_hid p h = ap (λ (x : ℕ). 2 ^ x) (sym (suc-pred p h)) ∙ pow-succ' 2 (p - 1) ∙ mul_comm 2 (2 ^ (p - 1))
+
+-- q may have one digit too many, where it is 2 ^ prec
+odd-bits : (f : Format) (s : Bool) (q k : ℕ) → q ≤ 2 ^ prec f → (0 < k → hid f ≤ q) → to_bits f (odd (suc (prec f)) s q k (low f)) ≡ cond s (top f) 0 + (k * hid f + q)
+odd-bits f s q k Q K = elim (eq-or-lt_of_le Q) [
+  | inl e ↦
+      let x = odd (suc (prec f)) s q k (low f) in
+      let t : q ≡ hid f * 2 = e ∙ twice_hid (prec f) (two-le_pos (prec f) (two f)) in
+      let w : q * 2 ^ k ≡ hid f * 2 ^ suc k = ap (λ (z : ℕ). z * 2 ^ k) t ∙ mul_assoc (hid f) 2 (2 ^ k) ∙ ap (λ (z : ℕ). hid f * z) (sym (pow-succ' 2 k)) in
+      let small : hid f < 2 ^ prec f = lt_of_lt_of_le (half (hid f) (pow_pos (prec f - 1))) (le_of_eq (sym (twice_hid (prec f) (two-le_pos (prec f) (two f))))) in
+      bits_of_value f x s (hid f) (suc k) small (λ g. le_of_eq refl) (subst (λ (z : ℕ). HasValue x s z (2 ^ low f)) w (odd_sign (suc (prec f)) s q k (low f)))
+      ∙ ap (λ (z : ℕ). cond s (top f) 0 + z) (ap (λ (z : ℕ). z + hid f) (suc-mul k (hid f)) ∙ onto (k * hid f) (hid f) q t)
+  | inr l ↦ bits_of_value f (odd (suc (prec f)) s q k (low f)) s q k l K (odd_sign (suc (prec f)) s q k (low f))
+]
+  where
+    half : (h : ℕ) → 0 < h → h < h * 2
+    half h p = omega arith
+
+    onto : (a h q : ℕ) → q ≡ h * 2 → a + h + h ≡ a + q
+    onto a h q e = omega arith
+
+-- ---- `units`
+units-odd : (f : Format) (s : Bool) (q k : ℕ) → q * 2 ^ k < 2 ^ (low f + suc (emax f)) → units f s q k ≡ odd (suc (prec f)) s q k (low f)
+unfolding units
+units-odd f s q k h =
+    ap (λ (b : Bool). cond b (odd (suc (prec f)) s q k (low f)) (inf s)) (is_true (ltb (q * 2 ^ k) (2 ^ (low f + suc (emax f)))) (lt→ltb (q * 2 ^ k) (2 ^ (low f + suc (emax f))) h))
+
+pub units-inf : (f : Format) (s : Bool) (q k : ℕ) → 2 ^ (low f + suc (emax f)) ≤ q * 2 ^ k → units f s q k ≡ inf s
+unfolding units
+units-inf f s q k h =
+    ap (λ (b : Bool). cond b (odd (suc (prec f)) s q k (low f)) (inf s)) (is_false (ltb (q * 2 ^ k) (2 ^ (low f + suc (emax f)))) (le→nltb (q * 2 ^ k) (2 ^ (low f + suc (emax f))) h))
+
+pub units-bits : (f : Format) (s : Bool) (q k : ℕ) → q ≤ 2 ^ prec f → (0 < k → hid f ≤ q) → q * 2 ^ k < 2 ^ (low f + suc (emax f)) → units f s q k ≡ of_bits f (cond s (top f) 0 + (k * hid f + q))
+units-bits f s q k Q K h =
+    let x = odd (suc (prec f)) s q k (low f) in
+    let room : q < 2 ^ suc (prec f) = lt_of_le_of_lt Q (more (prec f)) in
+    units-odd f s q k h ∙ sym (of_bits-to_bits f x (odd-fits f (suc (prec f)) s q k room Q h)) ∙ ap (λ (b : ℕ). of_bits f b) (odd-bits f s q k Q K)
+  where
+    double : (p z : ℕ) → 0 < p → z ≡ 2 * p → p < z
+    double p z h e = omega arith
+
+    more : (p : ℕ) → 2 ^ p < 2 ^ suc p
+    more p = double (2 ^ p) (2 ^ suc p) (pow_pos p) (pow-succ' 2 p)
+
+-- ---- `round` of M * 2 ^ k / 2 ^ t units
+module _ (f : Format) (s : Bool) (M k t : ℕ) (hi : M < 2 ^ (prec f + t)) (lo : 0 < k → 2 ^ (prec f - 1 + t) ≤ M) where
+  whole_drop : size (M * 2 ^ k / 2 ^ t) - prec f ≡ k
+  whole_drop =
+      dropped (prec f) (M * 2 ^ k / 2 ^ t) k (two-le_pos (prec f) (two f))
+      ((div-lt_iff_lt-mul (pow_pos t)).1 (lt_of_lt_of_le (shl_lt (prec f + t) k hi) (le_of_eq (simp (pow-add, mul_assoc, mul_comm, mul_left_comm)))))
+      (λ g. (le-div_iff_mul-le (pow_pos t)).1 (le_trans (le_of_eq (simp (pow-add, mul_assoc, mul_comm, mul_left_comm))) (mul-le-mul_right (2 ^ k) (lo g))))
+
+  pub round-units : round f s (M * 2 ^ k) (2 ^ (low f + t)) ≡ units f s (closest M (2 ^ t)) k
+  round-units =
+      let n = M * 2 ^ k * 2 ^ low f in
+      let den = 2 ^ (low f + t) in
+      let w : n / den ≡ M * 2 ^ k / 2 ^ t = div_same n den (M * 2 ^ k) (2 ^ t) (pow_pos (low f + t)) (pow_pos t) (mul_assoc (M * 2 ^ k) (2 ^ low f) (2 ^ t) ∙ ap (λ (z : ℕ). M * 2 ^ k * z) (sym (pow-add 2 (low f) t))) in
+      let d : size (n / den) - prec f ≡ k = ap (λ (z : ℕ). size z - prec f) w ∙ whole_drop in
+      round_is f s (M * 2 ^ k) den
+      ∙ ap (λ (j : ℕ). units f s (closest n (den * 2 ^ j)) j) d
+      ∙ ap (λ (z : ℕ). units f s z k)
+      (closest_same n (den * 2 ^ k) M (2 ^ t) (mul-pos (pow_pos (low f + t)) (pow_pos k)) (pow_pos t) (simp (pow-add, mul_assoc, mul_comm, mul_left_comm)))
+
+  pub kept-le : closest M (2 ^ t) ≤ 2 ^ prec f
+  kept-le =
+      le_trans (nearest-le (M / 2 ^ t) (compare (M % 2 ^ t * 2) (2 ^ t)))
+      ((div-lt_iff_lt-mul (pow_pos t)).1 (lt_of_lt_of_le hi (le_of_eq (pow-add 2 (prec f) t))))
+
+  pub kept-ge : 0 < k → hid f ≤ closest M (2 ^ t)
+  kept-ge g =
+      le_trans ((le-div_iff_mul-le (pow_pos t)).1 (le_trans (le_of_eq (sym (pow-add 2 (prec f - 1) t))) (lo g)))
+      (nearest-ge (M / 2 ^ t) (compare (M % 2 ^ t * 2) (2 ^ t)))
+
+  pub round-bits : closest M (2 ^ t) * 2 ^ k < 2 ^ (low f + suc (emax f)) → round f s (M * 2 ^ k) (2 ^ (low f + t)) ≡ of_bits f (cond s (top f) 0 + (k * hid f + closest M (2 ^ t)))
+  round-bits h = round-units ∙ units-bits f s (closest M (2 ^ t)) k kept-le kept-ge h
 
 -- ---- a pattern by its sign and the rest
 fields : (f : Format) (s s' : Bool) (x x' t t' : ℕ) → s ≡ s' → x ≡ x' → t ≡ t' → of_fields f s x t ≡ of_fields f s' x' t'

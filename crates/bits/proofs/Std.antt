@@ -2,11 +2,10 @@
 use Rattle.std.proofs.Common.{◌≡◌, ℕ, zero, suc, ◌+◌, ◌-◌, ◌%◌, ◌<◌, true, false, T, sym, refl, ap, ◌∙◌, subst, arith}
 use Rattle.std.proofs.lemmas.Bool.Decides.{nat_tests}
 use Rattle.std.specs.Float as Std
-use Rattle.std.specs.Float.{float_is_finite, round_to_format, next_up_by_bits}
+use Rattle.std.specs.Float.{float_is_finite, next_up_by_bits}
 use lib.Ieee.{Float, nan, inf, fin, binary32, fits, is_nan, to_bits, of_bits}
 use lib.Ieee.Bits.{to_bits-lt}
 use Rattle.bits.specs.Finite.{finite}
-use Rattle.bits.specs.Convert.{narrow}
 use Rattle.bits.specs.NextUp.{next_up}
 use Rattle.bits.proofs.NextUp.{minus-bits, zero_bits, plus-bits, minus-over}
 
@@ -15,12 +14,6 @@ unfolding float_is_finite finite
 finite_is nan = refl
 finite_is (inf s) = refl
 finite_is (fin s m e) = refl
-
-pub narrow_is : (x : Float) → round_to_format binary32 x ≡ narrow x
-unfolding round_to_format narrow
-narrow_is nan = refl
-narrow_is (inf s) = refl
-narrow_is (fin s m e) = refl
 
 -- ---- next up, by the four arms of std's
 up : (x : Float) (b : ℕ) → b < 2139095040 → next_up_by_bits binary32 x b ≡ of_bits binary32 (b + 1)

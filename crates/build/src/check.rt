@@ -9,7 +9,7 @@ ghost use Rattle.select.specs.Order.{slot_of};
 ghost use Rattle.build.specs.Check.{Decides, Found};
 
 use select::rank::{next_axis, rank_at};
-use tree::{KdTree, PointCloud};
+use tree::{KdTreeView, PointCloud};
 
 // Whether point i has three finite coordinates.
 pub fn is_indexed(cloud: &PointCloud, i: usize) -> bool
@@ -34,7 +34,7 @@ fn same(x: f32, y: f32) -> bool
 }
 
 // Whether a slot holds point i.
-fn holds(cloud: &PointCloud, tree: &KdTree, i: u32, at: usize) -> bool
+fn holds(cloud: &PointCloud, tree: &KdTreeView, i: u32, at: usize) -> bool
     requires { (i < count cloud.now) × (at < length tree.now.indices) }
     ensures { Decides result (slot_of cloud.now i ≡ slot (point_at tree.now.coords at) (get_or tree.now.indices at 0)) }
 {
@@ -44,7 +44,7 @@ fn holds(cloud: &PointCloud, tree: &KdTree, i: u32, at: usize) -> bool
 }
 
 // Whether point i is reached from the root: to the left where it ranks lower than a slot, to the right where it ranks higher.
-fn reached(cloud: &PointCloud, tree: &KdTree, i: u32) -> bool
+fn reached(cloud: &PointCloud, tree: &KdTreeView, i: u32) -> bool
     requires { i < count cloud.now }
     ensures { Decides result (Reached 0 (slot_of cloud.now i) (lent tree.now.coords tree.now.indices)) }
 {
@@ -73,7 +73,7 @@ fn reached(cloud: &PointCloud, tree: &KdTree, i: u32) -> bool
 }
 
 // Whether point i is reached, if it is indexed.
-fn found(cloud: &PointCloud, tree: &KdTree, i: u32) -> bool
+fn found(cloud: &PointCloud, tree: &KdTreeView, i: u32) -> bool
     requires { i < count cloud.now }
     ensures { Decides result (Found cloud.now tree.now.coords tree.now.indices i) }
 {
@@ -81,7 +81,7 @@ fn found(cloud: &PointCloud, tree: &KdTree, i: u32) -> bool
 }
 
 // Whether every indexed point is reached.
-pub fn all_found(cloud: &PointCloud, tree: &KdTree) -> bool
+pub fn all_found(cloud: &PointCloud, tree: &KdTreeView) -> bool
     ensures { Decides result ((k : ℕ) → k < count cloud.now → Found cloud.now tree.now.coords tree.now.indices k) }
 {
     (0..cloud.len() as u32).all(|i| found(cloud, tree, i))

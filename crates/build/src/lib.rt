@@ -17,7 +17,7 @@ use check::{all_found, count_indexed, is_indexed};
 use select::median::select;
 use select::rank::{Ranking, next_axis};
 use space::Point3f;
-use tree::{KdTree, PointCloud, Refusal};
+use tree::{KdTreeView, PointCloud, Refusal};
 
 // Builds a group: the median goes to the front, the lower ranks and the higher ranks are built one level deeper.
 fn build_group(by: &Ranking, indices: &mut [u32])
@@ -101,6 +101,6 @@ pub fn is_tree_of(cloud: &[f32], coords: &[f32], indices: &[u32]) -> Result<bool
         return Err(Refusal::UnfitLengths);
     }
     let cloud = PointCloud::of(cloud)?;
-    let tree = KdTree::of(coords, indices)?;
+    let tree = KdTreeView::of(coords, indices)?;
     Ok(count_indexed(&cloud) == indices.len() && all_found(&cloud, &tree))
 }

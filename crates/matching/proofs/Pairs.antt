@@ -9,8 +9,7 @@ use lib.Dec.{eqb}
 use lib.ListN.{length, take, drop, set, get_or, length-append, take-append-drop, length-map}
 use lib.Seq.{take-suc, length-take-le}
 use borrow.Author.Tests.{eq-eqb, ne_eqb}
-use Rattle.std.specs.List.{count_by}
-use Rattle.std.proofs.lemmas.List.Recursion.{is_count_by}
+use mir.Val.{bool_byte}
 use Rattle.tree.specs.Refuse.{no_match, overwrite}
 use Rattle.matching.specs.Pairs.{Pair, pair, pairs_from, pairs}
 use Rattle.tree.proofs.Overwrite.{over-one, length_over}
@@ -54,6 +53,15 @@ step-one M i h e = step M i h ∙ ap (λ (b : Bool). pairs (take i M) ++ cond b 
 pub grows : (M : List ℕ) (i : ℕ) → i < length M → (get_or M i 0 ≡ no_match → ⊥) → length (pairs (take (i + 1) M)) ≡ length (pairs (take i M)) + 1
 grows M i h e = ap length (step-one M i h e) ∙ length-append (pairs (take i M)) (pair i (get_or M i 0) ∷ [])
 
+-- the same, counted without a branch
+pub one-more : (M : List ℕ) (i : ℕ) → i < length M → length (pairs (take i M)) + bool_byte (not (eqb (get_or M i 0) no_match)) ≡ length (pairs (take (i + 1) M))
+one-more M i h =
+    sym (ap length (step M i h) ∙ length-append (pairs (take i M)) (one i (get_or M i 0)) ∙ ap (λ (k : ℕ). length (pairs (take i M)) + k) (go (eqb (get_or M i 0) no_match)))
+  where
+    go : (b : Bool) → length (cond b [] (pair i (get_or M i 0) ∷ [])) ≡ bool_byte (not b)
+    go true = refl
+    go false = refl
+
 pub nil : 0 ≡ length (pairs [])
 unfolding pairs pairs_from
 nil = refl
@@ -85,23 +93,3 @@ front-le M i =
 
 pub written-length : (f : Pair → ℕ) (M S : List ℕ) (i : ℕ) → length (pairs M) ≤ length S → length (overwrite (map f (pairs (take i M))) S) ≡ length S
 written-length f M S i h = length_over (map f (pairs (take i M))) S (omega (arith, length-map (pairs (take i M)) f, front-le M i))
-
--- a pair for each entry that is a match, wherever they begin
-elsewhere : (i j : ℕ) (M : List ℕ) → length (pairs_from i M) ≡ length (pairs_from j M)
-unfolding pairs_from
-elsewhere i j [] = refl
-elsewhere i j (m ∷ M) = go (eqb m no_match) (elsewhere (suc i) (suc j) M)
-  where
-    go : (b : Bool) → length (pairs_from (suc i) M) ≡ length (pairs_from (suc j) M)
-        → length (cond b (pairs_from (suc i) M) (pair i m ∷ pairs_from (suc i) M)) ≡ length (cond b (pairs_from (suc j) M) (pair j m ∷ pairs_from (suc j) M))
-    go true e = e
-    go false e = ap suc e
-
-pub pairs-count : (M : List ℕ) → length (pairs M) ≡ count_by (λ m. not (eqb m no_match)) M
-unfolding pairs pairs_from
-pairs-count M = is_count_by (λ (l : List ℕ). length (pairs l)) (λ m. not (eqb m no_match)) refl (λ m l. go m l (eqb m no_match) (elsewhere 1 0 l)) M
-  where
-    go : (m : ℕ) (l : List ℕ) (b : Bool) → length (pairs_from 1 l) ≡ length (pairs_from 0 l)
-        → length (cond b (pairs_from 1 l) (pair 0 m ∷ pairs_from 1 l)) ≡ cond (not b) (1 + length (pairs_from 0 l)) (length (pairs_from 0 l))
-    go m l true e = e
-    go m l false e = omega arith

@@ -73,12 +73,14 @@ pub fn replay(answers: &mut Answers<impl Read>) {
     let mut source = [0.0; stream::NUMBERS];
     let mut target = [0.0; stream::NUMBERS];
     let mut matches = [0; stream::POINTS];
+    let mut coords = [0.0; stream::NUMBERS];
+    let mut indices = [0; stream::POINTS];
     let source = &mut source[..3 * n];
     let target = &mut target[..3 * k];
     let matches = &mut matches[..n];
     answers.read_floats(source);
     answers.read_floats(target);
-    let slots = Slots::build(target, answers);
+    let slots = Slots::build(target, &mut coords, &mut indices, answers);
     answers.read_words(matches);
     let matched = matching::find_correspondences_seeded(
         source,

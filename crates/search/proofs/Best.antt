@@ -50,7 +50,7 @@ falling q bound pl n s = go (lt (distance_squared q n.point) (limit bound s)) re
 
 -- ---- where the walk begins
 
-pub begins : (indices : List ℕ) (q : Point3f) (bound : Float) (search : Bounded) → search.indices.now ≡ indices → search.limit ≡ limit bound search.best
+pub begins : (indices : List ℕ) (q : Point3f) (bound : Float) (search : Bounded) → search.indices.now ≡ indices → search.held.limit ≡ limit bound search.held.best
     → Begins rule (λ a room s best. Holds a s best) (length indices) q search
-    (record { indices = indices; query = q; bound = bound }) search.best
+    (record { indices = indices; query = q; bound = bound }) search.held.best
 begins indices q bound search a b = record { from = refl; over = refl; falling = falling q bound; holds = record { indices = a; best = refl; limit = b } }

@@ -17,5 +17,5 @@ rule a = record { query = a.query; indices = a.indices; visit = visit a.query a.
 -- the best, and beside it the distance that stands as best
 pub record Holds (asked : Asked) (search : Bounded) (held : Nearest) : Type 0 where
   pub indices : search.indices.now ≡ asked.indices
-  pub best : search.best ≡ held
-  pub limit : search.limit ≡ limit asked.bound held
+  pub best : search.held.best ≡ held
+  pub limit : search.held.limit ≡ limit asked.bound held

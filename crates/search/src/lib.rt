@@ -9,7 +9,7 @@ ghost use Rattle.search.specs.Search.{limit, first_best, searched, bounded, unbo
 ghost use Rattle.search.specs.Demands.{MeetsDemand2, MeetsDemand3};
 
 use space::Point3f;
-use tree::{KdTree, Refusal};
+use tree::{KdTreeView, Refusal};
 use walk::Search;
 
 // An index with its squared distance, or nothing: the answer, the best so far, and the seed. An enum by value, not an `Option`, as 01 says.
@@ -41,12 +41,18 @@ impl Nearest {
     }
 }
 
-// What bounded search holds while it walks: the best so far beside the distance that a slot has to be strictly below.
+// The best so far beside the distance that a slot has to be strictly below.
+#[derive(Clone, Copy, Debug, PartialEq)]
+pub struct Held {
+    pub best: Nearest,
+    pub limit: f32,
+}
+
+// Bounded search while it walks.
 #[derive(Drop)]
 struct Bounded<'a> {
     indices: &'a [u32],
-    best: Nearest,
-    limit: f32,
+    held: Held,
 }
 
 impl Search for Bounded<'_> {
@@ -62,29 +68,33 @@ impl Search for Bounded<'_> {
 
     // A slot replaces the best only when strictly nearer.
     fn visit(&mut self, at: u32, distance_sq: f32) {
-        if distance_sq < self.limit {
-            self.best = Nearest::Found(self.indices[at as usize], distance_sq);
-            self.limit = distance_sq;
+        if distance_sq < self.held.limit {
+            self.held = Held {
+                best: Nearest::Found(self.indices[at as usize], distance_sq),
+                limit: distance_sq,
+            };
         }
     }
 
     fn enters(&self, plane_sq: f32) -> bool {
-        plane_sq < self.limit
+        plane_sq < self.held.limit
     }
 }
 
 // The search in a tree whose lengths have been tested.
-pub fn nearest_in(tree: &KdTree, query: Point3f, bound_sq: f32, seed: Nearest) -> Nearest
+pub fn nearest_in(tree: &KdTreeView, query: Point3f, bound_sq: f32, seed: Nearest) -> Nearest
     ensures { result ≡ searched tree.now.coords tree.now.indices query bound_sq seed }
 {
     let first = seed.first(bound_sq);
     let mut search = Bounded {
         indices: tree.indices(),
-        best: first,
-        limit: first.limit(bound_sq),
+        held: Held {
+            best: first,
+            limit: first.limit(bound_sq),
+        },
     };
     walk::pruned_walk(tree, query, &mut search);
-    search.best
+    search.held.best
 }
 
 // The nearest slot strictly below the bound, or the seed where that is below it and no slot is nearer; or nothing.
@@ -98,7 +108,7 @@ pub fn find_nearest_bounded(
     ensures rule { outcome_of result ≡ bounded coords.now indices.now query bound_sq seed }
     ensures demand2 { MeetsDemand2 coords.now indices.now query bound_sq seed result }
 {
-    let tree = KdTree::of(coords, indices)?;
+    let tree = KdTreeView::of(coords, indices)?;
     Ok(nearest_in(&tree, query, bound_sq, seed))
 }
 

@@ -61,9 +61,9 @@ impl<'a> Writer<'a> {
         requires { HasRoom (length text.now) self.old }
         ensures { Writes text.now self.old self.new }
     {
-        let end = self.len + text.len();
-        self.out[self.len..end].copy_from_slice(text);
-        self.len = end;
+        let behind = self.len + text.len();
+        self.out[self.len..behind].copy_from_slice(text);
+        self.len = behind;
     }
 
     // The last k digits of n.

@@ -1,29 +1,14 @@
-// A k-d tree as it is lent, once the lengths of its two slices have been tested.
-ghost use Rattle.std.specs.Prelude.{◌≡◌, ◌*◌, ◌≤◌, length};
+// The tree's constants, and its levels.
+ghost use Rattle.std.specs.Prelude.{◌≡◌};
 ghost use Rattle.tree.specs.Levels.{levels};
-ghost use Rattle.tree.specs.Refuse.{gives, on_tree};
-ghost use Rattle.tree.specs.Refusal.{outcome_of};
-ghost use Rattle.tree.specs.Lent.{Lent, IsLent};
 
-use crate::Refusal;
-use std::marker::Model;
-
-// Three coordinates and one index to a slot, and no more slots than a tree may have.
-#[derive(Drop)]
-pub struct KdTree<'a> {
-    coords: &'a [f32],
-    indices: &'a [u32],
+// A k-d tree is lent as two slices, three coordinates and one index to a slot (`KdTreeView`); the type holds its constants.
+#[derive(Clone, Copy, Debug, PartialEq, Eq)]
+pub struct KdTree {
+    pub len: u32,
 }
 
-impl<'a> Model for KdTree<'a> {
-    ghost Value = { Lent };
-
-    ghost view = { λ t. record { coords = t.coords.now; indices = t.indices.now } };
-
-    ghost invariant = { λ t. IsLent t.coords.now t.indices.now };
-}
-
-impl<'a> KdTree<'a> {
+impl KdTree {
     // A match entry of this value means no match, and as a seed no seed; the Rust's value for a missing child.
     pub const NO_CHILD: u32 = 4294967295;
 
@@ -38,56 +23,5 @@ impl<'a> KdTree<'a> {
         ensures { result ≡ levels m }
     {
         32 - u32::leading_zeros(m)
-    }
-
-    // Refuses slots whose lengths do not fit one another, or that are too many.
-    #[inline]
-    pub fn of(coords: &'a [f32], indices: &'a [u32]) -> Result<KdTree<'a>, Refusal>
-        ensures { outcome_of result ≡ on_tree coords.now indices.now (gives (record { coords = coords.now; indices = indices.now })) }
-    {
-        if coords.len() != 3 * indices.len() {
-            return Err(Refusal::UnfitLengths);
-        }
-        if KdTree::MAX_POINTS < indices.len() {
-            return Err(Refusal::TooMany);
-        }
-        Ok(KdTree { coords, indices })
-    }
-
-    // The same of slots whose lengths are known to fit.
-    #[inline]
-    pub fn new(coords: &'a [f32], indices: &'a [u32]) -> KdTree<'a>
-        requires even { length coords.now ≡ 3 * length indices.now }
-        requires few { length indices.now ≤ 1048576 }
-        ensures { result ≡ record { coords = coords.now; indices = indices.now } }
-    {
-        KdTree { coords, indices }
-    }
-
-    // How many slots there are.
-    #[inline]
-    pub fn len(&self) -> u32
-        ensures all { result ≡ length self.now.indices }
-        ensures few { result ≤ 1048576 }
-    {
-        self.indices.len() as u32
-    }
-
-    // Three coordinates to a slot.
-    #[inline]
-    pub fn coords(&self) -> &'a [f32]
-        ensures held { result.now ≡ self.now.coords }
-        ensures even { length result.now ≡ 3 * length self.now.indices }
-    {
-        self.coords
-    }
-
-    // The index of each slot's point.
-    #[inline]
-    pub fn indices(&self) -> &'a [u32]
-        ensures held { result.now ≡ self.now.indices }
-        ensures few { length result.now ≤ 1048576 }
-    {
-        self.indices
     }
 }

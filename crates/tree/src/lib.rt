@@ -8,9 +8,11 @@ ghost use Rattle.tree.specs.Refusal.{number_of};
 ghost use Rattle.tree.specs.Refuse.{any_entry_outside, any_index_outside};
 
 mod kd_tree;
+mod kd_tree_view;
 mod point_cloud;
 
 pub use kd_tree::KdTree;
+pub use kd_tree_view::KdTreeView;
 pub use point_cloud::PointCloud;
 use space::Point3f;
 use thiserror::Error;

@@ -5,7 +5,7 @@ ghost use Rattle.walk.specs.Pruned.{Rule, Met, Begins, walked};
 
 use crate::{Group, Waiting};
 use space::Point3f;
-use tree::KdTree;
+use tree::{KdTree, KdTreeView};
 
 // A search by the pruned walk.
 pub trait Search {
@@ -33,7 +33,7 @@ pub trait Search {
 }
 
 // The near part is gone into at once, far parts wait, and each is judged when it is put on the stack and again when it is taken off.
-pub fn pruned_walk<S: Search>(tree: &KdTree, query: Point3f, search: &mut S)
+pub fn pruned_walk<S: Search>(tree: &KdTreeView, query: Point3f, search: &mut S)
     requires { (asked : S.Asked) × (held : S.State) × Begins S.rule S.Holds (length tree.now.indices) query search.old asked held }
     ensures { (asked : S.Asked) (held : S.State) → Begins S.rule S.Holds (length tree.now.indices) query search.old asked held → (room : ℕ) × S.Holds asked room search.new (walked (S.rule asked) tree.now.coords held) }
 {

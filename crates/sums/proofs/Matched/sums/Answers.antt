@@ -8,6 +8,10 @@ use Rattle.sums.specs.Sums.{run_length, sums}
 use Rattle.sums.proofs.Runs.{Adding, adding-goes, adding-ends, run-count}
 use Rattle.sums.proofs.Matched.sums.Goals as goal
 
+-- by hand, so that of a wrong length the check shows what differs
+pub sum_run-requires : goal.sum_run-requires
+sum_run-requires c = omega (arith, c.min-len.ensures)
+
 pub merge-total-requires : goal.merge-total-requires
 merge-total-requires c =
     let few = c.loop-at.invariant.few in

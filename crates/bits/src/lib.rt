@@ -15,6 +15,7 @@ ghost use Rattle.bits.specs.Key as Key;
 use std::num;
 
 // The value of a bit pattern, and the pattern of a value, where every NaN is one and is written by one pattern.
+#[tactic(auto, using(crate::proofs::Tests::no_nan))]
 pub fn f32_from_bits(b: u32) -> f32
     ensures { result ≡ from_bits binary32 b }
 {
@@ -27,6 +28,7 @@ pub fn f32_to_bits(x: f32) -> u32
     num::f32_to_bits_with_nan(x)
 }
 
+#[tactic(auto, using(crate::proofs::Tests::no_nan))]
 pub fn f64_from_bits(b: u64) -> f64
     ensures { result ≡ from_bits binary64 b }
 {
